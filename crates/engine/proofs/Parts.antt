@@ -1,0 +1,59 @@
+-- The machine of a state some of whose parts are new, and a refusal.
+use mathlib.Core.Path.{_≡_}
+use mathlib.Core.Bool.{Bool}
+use mathlib.Core.List.{List}
+use Prim.Native.Nat.{ℕ}
+use Rattle.rules.specs.declared.Slot.{Slot}
+use Rattle.rules.specs.declared.refusal.Refusal.{Refusal}
+use Rattle.rules.specs.Refusals.{numberOf}
+use Rattle.rules.specs.Choices.{withPlace, refuse}
+use Rattle.rules.specs.Choices as rules
+use Rattle.tables.specs.declared.Tables.{Tables}
+use Rattle.tables.specs.State as tables
+use Rattle.engine.specs.declared.State.{State}
+use Rattle.engine.specs.declared.Chosen.{Chosen}
+use Rattle.engine.specs.Machines.{machineOf, refusedBy, chosenOf}
+use Rattle.rules.specs.Answers.{answerOf}
+
+-- the same state but for some of its parts
+abbrev pub withParts : State → List ℕ → List Slot → ℕ → Bool → Tables → State
+withParts s counters slots placed stopped tables =
+    record {
+      pipes = s .pipes;
+      lines = s .lines;
+      workers = s .workers;
+      serial = s .serial;
+      counters = counters;
+      slots = slots;
+      placed = placed;
+      stopped = stopped;
+      tables = tables;
+    }
+
+-- its machine is that of the state but for these parts, if N is the same
+pub parts : (s : State) (m m′ : List ℕ) {a : rules.Answer} {c c′ : List ℕ} {slots slots′ : List Slot} {k k′ : ℕ} {stopped : Bool} {t : Tables} →
+    t .tokens ≡ s .tables .tokens → c ≡ c′ → slots ≡ slots′ → k ≡ k′ →
+    _≡_ {A = rules.Chosen tables.State} (record { answer = a; machine = machineOf (withParts s c slots k stopped t) m′ })
+    (record { answer = a; machine = withPlace (machineOf s m) c′ slots′ k′ stopped (t, m′) })
+unfolding machineOf
+parts s m m′ {a} {stopped = stopped} {t = t} same c-is slots-are k-is = λ i. record {
+  answer = a;
+  machine = record {
+    pipes = s .pipes;
+    lines = s .lines;
+    tokens = same i;
+    workers = s .workers;
+    serial = s .serial;
+    counters = c-is i;
+    slots = slots-are i;
+    placed = k-is i;
+    stopped = stopped;
+    source = (t, m′);
+  };
+}
+
+-- what the code returns for a refusal
+pub refused : {r : Chosen} (s : State) (why : Refusal) (m : List ℕ) → r ≡ refusedBy s why →
+    chosenOf r m ≡ refuse (machineOf s m) (numberOf why)
+unfolding chosenOf answerOf
+refused s why m e = rw e

@@ -1,0 +1,28 @@
+-- `engine::ranges::is_idle` meets its contract.
+use Rattle.rules.specs.Ranges.{isIdle}
+use Rattle.rules.proofs.lists.Tests.{tests}
+use Rattle.engine.proofs.ranges.is_idle.Statement.{statement}
+use Rattle.engine.proofs.ranges.is_idle.Tie as tie
+
+returns : tie.Need-returns
+unfolding isIdle
+returns c = search tests depth 12
+
+returns-2 : tie.Need-returns-2
+unfolding isIdle
+returns-2 c = search tests depth 12
+
+returns-3 : tie.Need-returns-3
+unfolding isIdle
+returns-3 c = search tests depth 12
+
+returns-4 : tie.Need-returns-4
+unfolding isIdle
+returns-4 c = search tests depth 12
+
+returns-5 : tie.Need-returns-5
+unfolding isIdle
+returns-5 c = search tests depth 12
+
+pub is-idle-spec : {M : Type 1} → statement M
+is-idle-spec = tie.close (tie.spec returns returns-2 returns-3 returns-4 returns-5)

@@ -1,0 +1,9 @@
+pub mod Facts
+pub mod Steps
+pub mod Fields
+pub mod SoundParts
+pub mod Sound
+pub mod CompleteParts
+pub mod Complete
+pub mod Theorem
+pub mod Examples

@@ -1,0 +1,13 @@
+-- The theorems about the rules, by topic. Reading order: counting in lists, and places that go round the lines;
+pub mod lists
+-- the plain sheet;
+pub mod sheet
+-- the pipeline over any source of tokens: how a run is accounted for, the invariant, one choice, and whole runs;
+pub mod standing
+pub mod invariant
+pub mod choices
+pub mod runs
+-- related sources give related runs;
+pub mod sources
+-- and the plans with known orders.
+pub mod KnownOrders

@@ -1,0 +1,13 @@
+-- One choice, and a list of them. Reading order:
+-- a refused choice changes nothing;
+pub mod Unchanged
+-- each kind of move keeps the invariant;
+pub mod Moves
+-- every choice is refused, not with 14, or makes a move;
+pub mod Steps
+-- the invariant holds at opening;
+pub mod Opening
+-- lists of answers;
+pub mod Answers
+-- a run as a trace of its moves.
+pub mod Trace

@@ -1,0 +1,17 @@
+-- Lists and arithmetic that several crates count with. Reading order:
+-- tests, by their two outcomes;
+pub mod Tests
+-- a test of each number below a bound;
+pub mod EveryBelow
+-- how often a number comes in a list;
+pub mod Counting
+-- what a list has, keeps and leaves out;
+pub mod Members
+-- a list longer than its numbers are small has one twice;
+pub mod Pigeonhole
+-- a property of every element;
+pub mod EveryLaws
+-- where a number stands in a list;
+pub mod Places
+-- places go round the lines.
+pub mod Rotation

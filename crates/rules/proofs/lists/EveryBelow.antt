@@ -1,0 +1,31 @@
+-- A test of each number below a bound, one number at a time.
+use mathlib.Core.Path.{_≡_, refl, sym, subst}
+use mathlib.Core.Bool.{Bool, true, false}
+use Prim.Native.Nat.{ℕ, zero, suc, _+_, _<_, _≤_}
+use native.Mathlib.Omega.{arith}
+use native.Mathlib.Numerals.{add-one}
+use native.Mathlib.Decide.{ℕ-discrete}
+use mathlib.Core.Logic.{by-cases}
+use Rattle.rules.specs.Lists.{every}
+use Rattle.rules.proofs.lists.Tests.{by-test}
+
+module _ (f : ℕ → Bool) where
+  pub every-none : every 0 f ≡ true
+  unfolding every
+  every-none = refl
+
+  pub every-more : (i : ℕ) → every i f ≡ true → f i ≡ true → every (i + 1) f ≡ true
+  unfolding every
+  every-more i h e = rw (add-one, e) h
+
+  -- all have passed, or one has not
+  pub every-done : (n i : ℕ) → i ≤ n → n ≤ i → every i f ≡ true → true ≡ every n f
+  every-done n i a b h = let i-is : i ≡ n = omega arith in sym (subst (λ j. every j f ≡ true) i-is h)
+
+  pub every-fails : (n i : ℕ) → i < n → f i ≡ false → false ≡ every n f
+  unfolding every
+  every-fails zero i h e = absurd (omega arith)
+  every-fails (suc n) i h e =
+      by-cases (ℕ-discrete i n)
+      (λ i-is. rw (subst (λ j. f j ≡ false) i-is e))
+      (λ less. by-test (f n) (λ t. rw t (every-fails n i (omega arith) e)) (λ t. rw t))

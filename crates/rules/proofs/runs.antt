@@ -1,0 +1,17 @@
+-- Whole runs, from their traces. Reading order:
+-- when a run has ended;
+pub mod Ending
+-- before its end a choice is allowed;
+pub mod Progress
+-- its order is a first part of the sheet;
+pub mod Order
+-- two choices for each token and pipe, and one to stop;
+pub mod Count
+-- the end state;
+pub mod Final
+-- each place once at each pipe;
+pub mod Marks
+-- the one-worker run;
+pub mod OneWorker
+-- the theorem: all of `WholeRun`.
+pub mod WholeRuns

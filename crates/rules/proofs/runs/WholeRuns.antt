@@ -1,0 +1,194 @@
+-- Demand 3, for the pipeline over any source of tokens.
+use mathlib.Core.Path.{_≡_, refl, sym, ap, _∙_}
+use mathlib.Core.Bool.{true, false}
+use mathlib.Core.List.{List, _++_, append-nil}
+use Prim.Native.Nat.{ℕ, _+_, _*_, _%_, _≤_, _<_}
+use native.Mathlib.Nat.{mod-le, mod-lt}
+use native.Mathlib.Omega.{arith}
+use lib.ListN.{length}
+use lib.Seq.{drop-length}
+use Rattle.rules.specs.Lists.{Every}
+use Rattle.rules.specs.RunState.{Pipeline, Machine}
+use Rattle.rules.specs.Sources.{Source}
+use Rattle.rules.specs.Choices.{Chosen, Answer, Started, Finished, Stopped, Refused, opened, choose, ended}
+use Rattle.rules.specs.WholeRuns.{PipelineInRange, WorkersInRange, Sheet, events, end, WholeRun}
+use Rattle.rules.specs.WholeRuns.{ordered, Accepted, accepted, lastOf, startsOf, finishesOf, final, oneWorker, Carries, withWorkers}
+use Rattle.rules.specs.PlainSheet.{Row, rows}
+use Rattle.rules.proofs.standing.Standing.{serialAt, toStart, toFinish, start-from, finish-from}
+use Rattle.rules.proofs.invariant.Invariant.{Allowed, whole}
+use Rattle.rules.proofs.choices.Opening.{at-opening, opening, opening-inv, start-opening, finish-opening}
+use Rattle.rules.proofs.choices.Moves.{Move, stops, enters, starts, finishes, Ready, next-answer}
+use Rattle.rules.proofs.choices.Steps.{refuses, moves, step}
+use Rattle.rules.proofs.choices.Trace.{Ran, ran}
+use Rattle.rules.proofs.runs.Order.{rowsFrom, order-part, never-spoiled, events-carry}
+use Rattle.rules.proofs.runs.Ending.{Over, over-ended, ended-over}
+use Rattle.rules.proofs.runs.Progress.{some-move, move-accepted}
+use Rattle.rules.proofs.runs.Count.{total, total-zero, left, left-first, takes, balance, over-count, count-over}
+use Rattle.rules.proofs.runs.Final.{is-final, place-from}
+use Rattle.rules.proofs.runs.Marks.{mark, mark-done, mark-due, mark-one, starts-marked, finishes-marked}
+use Rattle.rules.proofs.runs.OneWorker.{one-worker, length-one-worker}
+use Rattle.rules.proofs.choices.Answers.{started-accepted, all-counted, length-answers, split}
+
+module _ {X : Type 0} {S : Source X} {plan : Pipeline} (ranged : PipelineInRange plan) {workers : ℕ} (manned : WorkersInRange workers) {x : X} {order : List ℕ} {z : X}
+    (sheet : Sheet S plan x order z) where
+  allowed : Allowed plan workers order
+  allowed = record { ranged = ranged; manned = manned; fits = sheet .fits; known = sheet .known }
+
+  module _ (ls : List ℕ) where
+    -- what the run answers, and where it leads
+    abbrev told : List Answer
+    told = events S plan workers x ls
+
+    abbrev left-at : Machine X
+    left-at = end S plan workers x ls
+
+    run : Ran S plan order z workers (opening plan x) at-opening ls
+    run = ran allowed ls (opening plan x) at-opening (opening-inv ranged (sheet .writes))
+
+    left-is : left-at ≡ whole plan workers (run .end)
+    unfolding opened
+    left-is = run .is
+
+    over : ended left-at ≡ true → Over plan order z (run .end) (run .last)
+    over e = ended-over allowed (run .kept) (ap ended (sym left-is) ∙ e)
+
+    -- (a) the order
+    order-so-far : ordered told ++ rowsFrom plan order (run .end .placed) ≡ rows (plan .lines) 0 order
+    unfolding opened
+    order-so-far = order-part (run .trace)
+
+    whole-order : ended left-at ≡ true → ordered told ≡ rows (plan .lines) 0 order
+    unfolding rows
+    whole-order e =
+        sym (append-nil (ordered told)) ∙ ap (λ (r : List Row). ordered told ++ r) (sym (rw (over e .placed, drop-length order))) ∙ order-so-far
+
+    -- (b) the count
+    balanced : accepted told + total (left plan (run .last)) (plan .lines) ≡ 2 * (plan .pipes * takes (run .end))
+    unfolding opened
+    balanced = omega (arith, balance ranged (run .trace), total-zero (left plan at-opening) (plan .lines) (λ j h. left-first plan at-opening j refl refl))
+
+    -- (d) the events
+    carried : Every (Carries plan order) told
+    unfolding opened
+    carried = events-carry ranged (run .trace)
+
+    started-marks : (p k : ℕ) → p < plan .pipes → k < length order → startsOf p k told ≡ mark k (toStart plan (run .last) (k % plan .lines) p)
+    unfolding opened
+    started-marks p k h i = omega (
+      arith,
+      starts-marked ranged p k h i (run .trace),
+      mark-due k (toStart plan at-opening (k % plan .lines) p) (rw (start-opening ranged (k % plan .lines) p) (mod-le k (plan .lines))),
+    )
+
+    finished-marks : (p k : ℕ) → p < plan .pipes → k < length order → finishesOf p k told ≡ mark k (toFinish plan (run .last) (k % plan .lines) p)
+    unfolding opened
+    finished-marks p k h i = omega (
+      arith,
+      finishes-marked ranged p k h i (run .trace),
+      mark-due k (toFinish plan at-opening (k % plan .lines) p) (rw (finish-opening ranged (k % plan .lines) p) (mod-le k (plan .lines))),
+    )
+
+    all-marked : ended left-at ≡ true → (p k : ℕ) → p < plan .pipes → k < length order → (startsOf p k told ≡ 1) × (finishesOf p k told ≡ 1)
+    all-marked e p k h i =
+        let l : ℕ = k % plan .lines in
+        let far : k < run .last .place l = omega (arith, place-from allowed (run .kept) (over e) l (mod-lt k (ranged .lines-some))) in (
+          started-marks p k h i ∙ mark-done k (toStart plan (run .last) l p) (omega (arith, start-from ranged (run .last) l p)),
+          finished-marks p k h i ∙ mark-done k (toFinish plan (run .last) l p) (omega (arith, finish-from ranged (run .last) l p)),
+        )
+
+    -- where a line may start at a serial pipe, every place before its own has finished there
+    before-ready : (i p k : ℕ) → Ready plan (run .last) i → run .last .pipe i ≡ p → run .last .place i ≡ k → k < length order →
+        serialAt plan p ≡ true → (j : ℕ) → j < k → finishesOf p j told ≡ 1
+    before-ready i p k r e f h s j b =
+        let q : p < plan .pipes = omega (arith, e, run .kept .good .at i (r .within)) in
+        let c : run .last .passed p ≡ k = ap (run .last .passed) (sym e) ∙ sym (r .turns (ap (serialAt plan) e ∙ s)) ∙ f in
+        let d : k ≤ toFinish plan (run .last) (j % plan .lines) p =
+        omega (arith, c, run .kept .good .low (j % plan .lines) p (mod-lt j (ranged .lines-some)) q s) in
+        finished-marks p j q (omega arith) ∙ mark-done j (toFinish plan (run .last) (j % plan .lines) p) (omega arith)
+
+    -- so a choice that starts a place there comes after those that finished the places before
+    start-in-turn : (i l p t k : ℕ) → choose S left-at i .answer ≡ Started l p t k → serialAt plan p ≡ true → (j : ℕ) → j < k → finishesOf p j told ≡ 1
+    start-in-turn i l p t k e s =
+        let c : Chosen X = choose S (whole plan workers (run .end)) i in
+        let u : c .answer ≡ Started l p t k = ap (λ (m : Machine X). choose S m i .answer) (sym left-is) ∙ e in
+        elim (step allowed (run .kept) i) [
+          | refuses n d q ↦ absurd (started-accepted n (sym u ∙ ap (λ (c : Chosen X). c .answer) q))
+          | moves m ↦ elim m [
+            | stops st′ f n ↦
+                let v : c .answer ≡ Stopped i = next-answer S plan workers order z n in
+                let w : _≡_ {A = ℕ} 0 1 = cc in absurd (omega arith)
+            | finishes st′ f n ↦
+                let v : c .answer ≡ Finished i _ _ _ = next-answer S plan workers order z n in
+                let w : _≡_ {A = ℕ} 0 1 = cc in absurd (omega arith)
+            | enters st′ f n ↦
+                let v : c .answer ≡ Started i 0 _ (run .last .place i) = next-answer S plan workers order z n in
+                let a : 0 ≡ p = cc in
+                let b : run .last .place i ≡ k = cc in
+                before-ready i p k (f .ready) (f .first ∙ a) b (omega (arith, f .ordered)) s
+            | starts st′ f n ↦
+                let v : c .answer ≡ Started i (run .last .pipe i) _ (run .last .place i) = next-answer S plan workers order z n in
+                let a : run .last .pipe i ≡ p = cc in
+                let b : run .last .place i ≡ k = cc in
+                before-ready i p k (f .ready) a b (omega (arith, f .ordered)) s
+          ]
+        ]
+
+    -- (e) no answer is 14, and the run can go on
+    unspoiled : Every (λ a. a ≡ Refused 14 → ⊥) told
+    unfolding opened
+    unspoiled = never-spoiled (run .trace)
+
+    accepted-here : (l : ℕ) → Move S plan workers order z (run .end) (run .last) l (choose S (whole plan workers (run .end)) l) →
+        Accepted (choose S left-at l .answer)
+    accepted-here l m = rw left-is (move-accepted m)
+
+    next-move : ended left-at ≡ false → (l : ℕ) × (l < plan .lines) × Accepted (choose S left-at l .answer)
+    next-move e =
+        let r = some-move allowed (run .kept) (ap ended (sym left-is) ∙ e) in
+        (r .0, r .1, accepted-here (r .0) (r .2))
+
+  -- every list of choices, of any numbers, makes a run as demand 3 says
+  pub whole-run : (ls : List ℕ) → WholeRun S plan workers x ls order z
+  whole-run ls = record {
+    order-part = (rowsFrom plan order (run ls .end .placed), order-so-far ls);
+    order-whole = whole-order ls;
+    count = (
+      λ e. over-count allowed (run ls .kept) _ (balanced ls) (over ls e),
+      λ e. ap ended (left-is ls) ∙ over-ended allowed (run ls .kept) (count-over allowed (run ls .kept) _ (balanced ls) e),
+    );
+    end-state = λ e. left-is ls ∙ is-final allowed (run ls .kept) (over ls e);
+    carries = carried ls;
+    at-most-once = λ p k h i. (rw (started-marks ls p k h i) (mark-one k _), rw (finished-marks ls p k h i) (mark-one k _));
+    each-once = all-marked ls;
+    in-turn = λ before after l p t k e s j h.
+        let r = split S (opened plan workers x) ls before (Started l p t k) after e in
+        ap (finishesOf p j) (sym (r .is)) ∙ start-in-turn (r .earlier) (r .choice) l p t k (r .gives) s j h;
+    never-spoiled = unspoiled ls;
+    goes-on = next-move ls;
+  }
+
+module _ {X : Type 0} {S : Source X} {plan : Pipeline} (ranged : PipelineInRange plan) {x : X} {order : List ℕ} {z : X} (sheet : Sheet S plan x order z) where
+  -- (c) two runs that have ended, with whatever workers and choices, have left the same but for the workers
+  pub same-end : {w v : ℕ} → WorkersInRange w → WorkersInRange v → (ls ks : List ℕ) →
+      ended (end S plan w x ls) ≡ true → ended (end S plan v x ks) ≡ true →
+      (n : ℕ) → withWorkers n (end S plan w x ls) ≡ withWorkers n (end S plan v x ks)
+  unfolding final
+  same-end mw mv ls ks e f n =
+      ap (withWorkers n) (whole-run ranged mw sheet ls .end-state e) ∙ sym (ap (withWorkers n) (whole-run ranged mv sheet ks .end-state f))
+
+  one-manned : WorkersInRange 1
+  one-manned = record { some = omega arith; most = omega arith }
+
+  -- (f) the one-worker run: all its choices are accepted, the last stops, and it has ended
+  pub one-worker-accepted : Every Accepted (events S plan 1 x (oneWorker plan 0 (length order))) ×
+      ((a : Answer) → lastOf a (events S plan 1 x (oneWorker plan 0 (length order))) ≡ Stopped (length order % plan .lines))
+  unfolding opened
+  one-worker-accepted = one-worker S plan order z (allowed ranged one-manned sheet) (length order) 0 (omega arith) (opening plan x) at-opening
+      (record { kept = opening-inv ranged (sheet .writes); live = refl; placed = refl; first = λ j h. refl; rests = λ j h. refl })
+
+  -- so the one-worker run has ended
+  pub one-worker-ends : ended (end S plan 1 x (oneWorker plan 0 (length order))) ≡ true
+  one-worker-ends =
+      let ls : List ℕ = oneWorker plan 0 (length order) in
+      whole-run ranged one-manned sheet ls .count .1
+      (all-counted (events S plan 1 x ls) (one-worker-accepted .0) ∙ length-answers S (opened plan 1 x) ls ∙ length-one-worker plan 0 (length order))

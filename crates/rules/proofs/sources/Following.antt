@@ -1,0 +1,125 @@
+-- A run over a source that follows another goes as the run over that one, as long as no answer there is 14.
+use mathlib.Core.Path.{_≡_, refl, sym, ap, _∙_}
+use mathlib.Core.Bool.{true}
+use mathlib.Core.List.{List, [], _∷_}
+use Prim.Native.Nat.{ℕ, zero, suc, _+_, _*_}
+use native.Mathlib.Omega.{arith}
+use lib.Dec.{ltb, eqb}
+use lib.ListN.{getD}
+use Rattle.rules.specs.Lists.{Every}
+use Rattle.rules.specs.Sources.{Source, Taken, Spoiled, Nothing, Took, Released, Broken, Passed, Writes, close, write}
+use Rattle.rules.specs.RunState.{Machine, slotOf, counterOf, isSerial}
+use Rattle.rules.specs.Choices.{Refused, next, fall, runningBelow, movable, ended}
+use Rattle.rules.specs.Ranges.{numbersSound, sound}
+use Rattle.rules.specs.Choices.{startFirst, startLater, start, settle, finishWith, finishFirst, finish, move}
+use Rattle.rules.specs.Choices.{choose, answers, follow}
+use Rattle.rules.specs.RelatedSources.{mapTaken, mapReleased, mapMachine, mapChosen, Follows}
+use Rattle.rules.specs.declared.Slot.{Slot}
+use Rattle.rules.proofs.lists.Tests.{by-test}
+
+module _ {X Y : Type 0} (f : X → Y) (m : Machine X) where
+  -- the tests of a machine do not look at its source
+  movable-map : (n : ℕ) → movable (mapMachine f m) n ≡ movable m n
+  unfolding movable
+  movable-map zero = refl
+  movable-map (suc n) = rw (movable-map n)
+
+  pub ended-map : ended (mapMachine f m) ≡ ended m
+  unfolding ended
+  ended-map = rw (movable-map (m .lines))
+
+module _ {X Y : Type 0} {f : X → Y} {S : Source X} {T : Source Y} (follows : Follows f S T) where
+  -- an outcome that is known is not spoiled
+  takes-as : (x : X) {o : Taken X} → S .take x ≡ o → (o ≡ Spoiled → ⊥) → T .take (f x) ≡ mapTaken f o
+  takes-as x e n = follows .takes x (λ q. n (sym e ∙ q)) ∙ ap (mapTaken f) e
+
+  releases-as : (n : ℕ) (x : X) {o : Released X} → S .release n x ≡ o → (o ≡ Broken → ⊥) → T .release n (f x) ≡ mapReleased f o
+  releases-as n x e b = follows .releases n x (λ q. b (sym e ∙ q)) ∙ ap (mapReleased f) e
+
+  sound-as : (x : X) → S .sound x ≡ true → T .sound (f x) ≡ true
+  sound-as x e = follows .sounds x ∙ e
+
+  -- what one source writes down, the source that follows it writes down
+  pub writes-map : {x z : X} {ts : List ℕ} → Writes S x ts z → Writes T (f x) ts (f z)
+  writes-map (close {x} {z} s e s′) =
+      close (sound-as x s) (takes-as x e (λ q. let z : _≡_ {A = ℕ} 0 1 = cc in omega arith)) (sound-as z s′)
+  writes-map (write {x} {y} {t = t} s e s′ r later) =
+      write (sound-as x s) (takes-as x e (λ q. let z : _≡_ {A = ℕ} 0 1 = cc in omega arith)) (sound-as y s′)
+      (releases-as t y r (λ q. let z : _≡_ {A = ℕ} 0 1 = cc in omega arith)) (writes-map later)
+
+  module _ (m : Machine X) (l : ℕ) where
+    -- a start at pipe 0, whatever the source gives
+    start-first-map : (o : Taken X) → startFirst T (mapMachine f m) l (mapTaken f o) ≡ mapChosen f (startFirst S m l o)
+    unfolding startFirst
+    start-first-map Spoiled = refl
+    start-first-map (Nothing x) = refl
+    start-first-map (Took t x) = by-test (ltb (m .placed) (m .tokens)) (λ e. rw e) (λ e. rw e)
+
+    -- the two falls of a finish
+    settle-map : (s : Slot) (c : List ℕ) (x : X) → settle T (mapMachine f m) l s c (f x) ≡ mapChosen f (settle S m l s c x)
+    unfolding settle
+    settle-map s c x = by-test (eqb (getD c (16 * l + next (m .pipes) (s .pipe .0)) 0) 0) (λ e. rw e) (λ e. rw e)
+
+    finish-with-map : (s : Slot) (x : X) → finishWith T (mapMachine f m) l s (f x) ≡ mapChosen f (finishWith S m l s x)
+    unfolding finishWith
+    finish-with-map s x = by-test (isSerial m (s .pipe .0))
+      (λ e. rw e (by-test (eqb (getD (m .counters) (16 * next (m .lines) l + s .pipe .0) 0) 0)
+        (λ e. rw e)
+        (λ e. rw e (settle-map s (fall (m .counters) (16 * next (m .lines) l + s .pipe .0)) x))))
+      (λ e. rw e (settle-map s (m .counters) x))
+
+    finish-first-map : (s : Slot) (o : Released X) → finishFirst T (mapMachine f m) l s (mapReleased f o) ≡ mapChosen f (finishFirst S m l s o)
+    unfolding finishFirst
+    finish-first-map s Broken = refl
+    finish-first-map s (Passed x) = finish-with-map s x
+
+    -- a start and a finish, where a spoiled taking or a broken release has not been answered by 14
+    start-map : (start S m l .answer ≡ Refused 14 → ⊥) → start T (mapMachine f m) l ≡ mapChosen f (start S m l)
+    unfolding start startFirst startLater
+    start-map n = by-test (eqb (slotOf m l .pipe .0) 0)
+      (λ e. rw (e, follows .takes (m .source) (λ q. n (rw (e, q)))) (start-first-map (S .take (m .source))))
+      (λ e. rw e)
+
+    finish-map : (finish S m l .answer ≡ Refused 14 → ⊥) → finish T (mapMachine f m) l ≡ mapChosen f (finish S m l)
+    unfolding finish finishFirst
+    finish-map n = by-test (eqb (slotOf m l .pipe .0) 0)
+      (λ e. rw (e, follows .releases (slotOf m l .token .0) (m .source) (λ q. n (rw (e, q)))) (finish-first-map (slotOf m l) (S .release (slotOf m l .token .0) (m .source))))
+      (λ e. rw e (finish-with-map (slotOf m l) (m .source)))
+
+    move-map : (move S m l .answer ≡ Refused 14 → ⊥) → move T (mapMachine f m) l ≡ mapChosen f (move S m l)
+    unfolding move
+    move-map n = by-test (slotOf m l .running)
+      (λ e. rw e (finish-map (rw e at n)))
+      (λ e. rw e (by-test (eqb (counterOf m l (slotOf m l .pipe .0)) 0)
+        (λ c. rw c (by-test (ltb (runningBelow (m .slots) (m .lines)) (m .workers))
+          (λ w. rw w (start-map (rw (e, c, w) at n)))
+          (λ w. rw w)))
+        (λ c. rw c)))
+
+    sound-map : sound T (mapMachine f m) ≡ sound S m
+    unfolding sound numbersSound
+    sound-map = rw (follows .sounds (m .source))
+
+    -- one choice
+    pub choose-map : (choose S m l .answer ≡ Refused 14 → ⊥) → choose T (mapMachine f m) l ≡ mapChosen f (choose S m l)
+    unfolding choose
+    choose-map n = rw (sound-map, ended-map f m) (by-test (sound S m)
+      (λ s. rw s (by-test (ltb l (m .lines))
+        (λ i. rw i (by-test (ended m)
+          (λ e. rw e)
+          (λ e. rw e (move-map (rw (s, i, e) at n)))))
+        (λ i. rw i)))
+      (λ s. rw s))
+
+  -- a list of choices: the answers are the same, and the machine that is left is that of the other run, by the map
+  pub answers-map : (m : Machine X) (ls : List ℕ) → Every (λ a. a ≡ Refused 14 → ⊥) (answers S m ls) →
+      answers T (mapMachine f m) ls ≡ answers S m ls
+  unfolding answers
+  answers-map m [] h = refl
+  answers-map m (l ∷ ls) h = rw (choose-map m l (h .0), answers-map (choose S m l .machine) ls (h .1))
+
+  pub follow-map : (m : Machine X) (ls : List ℕ) → Every (λ a. a ≡ Refused 14 → ⊥) (answers S m ls) →
+      follow T (mapMachine f m) ls ≡ mapMachine f (follow S m ls)
+  unfolding answers follow
+  follow-map m [] h = refl
+  follow-map m (l ∷ ls) h = rw (choose-map m l (h .0), follow-map (choose S m l .machine) ls (h .1))

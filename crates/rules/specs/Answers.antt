@@ -1,0 +1,12 @@
+-- The paper's values for each case of an answer (01, "Choices and join counters" and "When the engine says no").
+use Rattle.rules.specs.Choices as paper
+use Rattle.rules.specs.Refusals.{numberOf}
+use Rattle.rules.specs.declared.answer.Answer.{Answer}
+use Rattle.rules.specs.declared.answer.Answer.the-variants.{Started, Finished, Stopped, Refused}
+
+-- line, pipe, token and place; the line; or the refusal's number
+unfoldable pub answerOf : Answer → paper.Answer
+answerOf (Started s) = paper.Started (s .line .0) (s .pipe .0) (s .token .0) (s .place .0)
+answerOf (Finished s) = paper.Finished (s .line .0) (s .pipe .0) (s .token .0) (s .place .0)
+answerOf (Stopped l) = paper.Stopped (l .0)
+answerOf (Refused r) = paper.Refused (numberOf r)

@@ -1,0 +1,200 @@
+-- Choices and join counters (01, "Choices and join counters"), over any source of tokens.
+use mathlib.Core.Bool.{Bool, true, false, not}
+use mathlib.Core.List.{List, [], _∷_}
+use Prim.Native.Nat.{ℕ, zero, suc, _+_, _-_, _/_, _%_}
+use lib.Dec.{ltb, eqb}
+use lib.ListN.{getD, set, replicate}
+use Rattle.rules.specs.Lists.{if, must, mustNot, table}
+use Rattle.rules.specs.Sources.{Source, Taken, Spoiled, Nothing, Took, Released, Broken, Passed}
+use Rattle.rules.specs.RunState.{Pipeline, Machine, idle, runs, waits, counterAt, slotOf, counterOf, isSerial, full}
+use Rattle.rules.specs.Ranges.{sound}
+use Rattle.rules.specs.declared.Slot.{Slot}
+
+-- "An accepted choice returns Started or Finished with line, pipe, token, place, or Stopped with line";
+-- any other returns the number of the first rule broken
+pub data Answer : Type 0 where
+  Started : ℕ → ℕ → ℕ → ℕ → Answer
+  Finished : ℕ → ℕ → ℕ → ℕ → Answer
+  Stopped : ℕ → Answer
+  Refused : ℕ → Answer
+
+-- what a choice returns and leaves
+pub record Chosen (X : Type 0) : Type 0 where
+  pub answer : Answer
+  pub machine : Machine X
+
+-- "state and memory unchanged"
+abbrev pub refuse : {X : Type 0} → Machine X → ℕ → Chosen X
+refuse m n = record { answer = Refused n; machine = m }
+
+-- the same run but for what a choice may change
+abbrev pub withPlace : {X : Type 0} → Machine X → List ℕ → List Slot → ℕ → Bool → X → Machine X
+withPlace m counters slots placed stopped source =
+    record {
+      pipes = m .pipes;
+      lines = m .lines;
+      tokens = m .tokens;
+      workers = m .workers;
+      serial = m .serial;
+      counters = counters;
+      slots = slots;
+      placed = placed;
+      stopped = stopped;
+      source = source;
+    }
+
+-- (i + 1) mod n: the line after, and the pipe after
+abbrev pub next : ℕ → ℕ → ℕ
+next n i = if (eqb (suc i) n) 0 (suc i)
+
+-- "the line waits there", at pipe (p + 1) mod P; at pipe 0 it holds no token
+abbrev pub moved : ℕ → Slot → Slot
+moved pipes s =
+    if (eqb (suc (s .pipe .0)) pipes) idle
+    (waits (suc (s .pipe .0)) (s .token .0) (s .place .0))
+
+-- a counter falls by one
+unfoldable pub fall : List ℕ → ℕ → List ℕ
+fall c i = set c i (getD c i 0 - 1)
+
+-- "The counter becomes full."
+abbrev pub filled : {X : Type 0} → Machine X → ℕ → ℕ → List ℕ
+filled m l p = set (m .counters) (counterAt l p) (full (isSerial m p))
+
+-- how many of the lines below `n` run
+unfoldable pub runningBelow : List Slot → ℕ → ℕ
+runningBelow s zero = 0
+runningBelow s (suc n) = if (getD s n idle .running) 1 0 + runningBelow s n
+
+-- whether one of the lines below `n` runs, or waits with counter 0
+unfoldable pub movable : {X : Type 0} → Machine X → ℕ → Bool
+movable m zero = false
+movable m (suc n) =
+    if (slotOf m n .running) true
+    (if (eqb (counterOf m n (slotOf m n .pipe .0)) 0) true
+    (movable m n))
+
+-- "The run has ended when it is marked stopped, no line runs and no waiting line has counter 0."
+unfoldable pub ended : {X : Type 0} → Machine X → Bool
+ended m = must (m .stopped) false (not (movable m (m .lines)))
+
+module _ {X : Type 0} (S : Source X) where
+  -- a start at pipe 0, with what the source gives: "a token is taken; if there is none, the line stops (it still counts
+  -- as waiting there), the run is marked stopped and the counter stays full"; 14 if no place is left for the token
+  unfoldable pub startFirst : Machine X → ℕ → Taken X → Chosen X
+  startFirst m l Spoiled = refuse m 14
+  startFirst m l (Nothing x) =
+      record {
+        answer = Stopped l;
+        machine = withPlace m (filled m l 0) (m .slots) (m .placed) true x;
+      }
+  startFirst m l (Took t x) =
+      must (ltb (m .placed) (m .tokens)) (refuse m 14)
+      (record {
+        answer = Started l 0 t (m .placed);
+        machine = withPlace m (filled m l 0)
+            (set (m .slots) l (runs 0 t (m .placed))) (suc (m .placed)) (m .stopped) x;
+      })
+
+  -- a start at a later pipe, with the token and place that the line holds
+  unfoldable pub startLater : Machine X → ℕ → Slot → Chosen X
+  startLater m l s =
+      record {
+        answer = Started l (s .pipe .0) (s .token .0) (s .place .0);
+        machine = withPlace m (filled m l (s .pipe .0))
+            (set (m .slots) l (runs (s .pipe .0) (s .token .0) (s .place .0))) (m .placed) (m .stopped) (m .source);
+      }
+
+  -- "Waiting with counter 0: start."
+  unfoldable pub start : Machine X → ℕ → Chosen X
+  start m l =
+      let s : Slot = slotOf m l in
+      let first : Chosen X = startFirst m l (S .take (m .source)) in
+      if (eqb (s .pipe .0) 0) first (startLater m l s)
+
+  -- "Then that of this line at pipe (p + 1) mod P falls by one, and the line waits there"; 14 if it is 0
+  unfoldable pub settle : Machine X → ℕ → Slot → List ℕ → X → Chosen X
+  settle m l s c x =
+      let i : ℕ = counterAt l (next (m .pipes) (s .pipe .0)) in
+      mustNot (eqb (getD c i 0) 0) (refuse m 14)
+      (record {
+        answer = Finished l (s .pipe .0) (s .token .0) (s .place .0);
+        machine = withPlace m (fall c i) (set (m .slots) l (moved (m .pipes) s)) (m .placed) (m .stopped) x;
+      })
+
+  -- "If the pipe is serial, the counter of line (l + 1) mod L at the same pipe falls by one"; 14 if it is 0
+  unfoldable pub finishWith : Machine X → ℕ → Slot → X → Chosen X
+  finishWith m l s x =
+      let i : ℕ = counterAt (next (m .lines) l) (s .pipe .0) in
+      if (isSerial m (s .pipe .0))
+      (mustNot (eqb (getD (m .counters) i 0) 0) (refuse m 14)
+      (settle m l s (fall (m .counters) i) x))
+      (settle m l s (m .counters) x)
+
+  -- a finish at pipe 0, with what the source makes of it
+  unfoldable pub finishFirst : Machine X → ℕ → Slot → Released X → Chosen X
+  finishFirst m l s Broken = refuse m 14
+  finishFirst m l s (Passed x) = finishWith m l s x
+
+  -- "Running: finish. At pipe 0 rule 4 is applied first."
+  unfoldable pub finish : Machine X → ℕ → Chosen X
+  finish m l =
+      let s : Slot = slotOf m l in
+      let first : Chosen X = finishFirst m l s (S .release (s .token .0) (m .source)) in
+      if (eqb (s .pipe .0) 0) first (finishWith m l s (m .source))
+
+  -- a running line finishes; a waiting one starts: 12 if its counter is above 0, 13 if W or more lines run
+  unfoldable pub move : Machine X → ℕ → Chosen X
+  move m l =
+      let s : Slot = slotOf m l in
+      if (s .running) (finish m l)
+      (must (eqb (counterOf m l (s .pipe .0)) 0) (refuse m 12)
+      (must (ltb (runningBelow (m .slots) (m .lines)) (m .workers)) (refuse m 13)
+      (start m l)))
+
+  -- "For a choice: 14 if .. a number in state or memory is outside its range, then 10 to 13, then 14"
+  unfoldable pub choose : Machine X → ℕ → Chosen X
+  choose m l =
+      must (sound S m) (refuse m 14)
+      (must (ltb l (m .lines)) (refuse m 10)
+      (mustNot (ended m) (refuse m 11)
+      (move m l)))
+
+  -- what a list of choices answers, and the run that it leaves: each is given what the one before left
+  unfoldable pub answers : Machine X → List ℕ → List Answer
+  answers m [] = []
+  answers m (l ∷ ls) = choose m l .answer ∷ answers (choose m l .machine) ls
+
+  unfoldable pub follow : Machine X → List ℕ → Machine X
+  follow m [] = m
+  follow m (l ∷ ls) = follow (choose m l .machine) ls
+
+-- "At opening: line 0 pipe 0 has 0; pipe 0 of other lines 1; other pipes of line 0 have 1; the rest are full."
+unfoldable pub openedCounter : ℕ → ℕ → Bool → ℕ
+openedCounter l p serial =
+    if (eqb l 0) (if (eqb p 0) 0 1)
+    (if (eqb p 0) 1 (full serial))
+
+-- "The run holds 512 counters (32 × 16); unused ones are 0."
+unfoldable pub tabled : Pipeline → (ℕ → ℕ → ℕ) → List ℕ
+tabled plan f =
+    table 512 (λ i.
+    must (ltb (i / 16) (plan .lines)) 0
+    (must (ltb (i % 16) (plan .pipes)) 0
+    (f (i / 16) (i % 16))))
+
+-- the run at opening, with W workers: "Each line waits at pipe 0."
+unfoldable pub opened : {X : Type 0} → Pipeline → ℕ → X → Machine X
+opened plan workers source =
+    record {
+      pipes = plan .pipes;
+      lines = plan .lines;
+      tokens = plan .tokens;
+      workers = workers;
+      serial = plan .serial;
+      counters = tabled plan (λ l p. openedCounter l p (getD (plan .serial) p false));
+      slots = replicate 32 idle;
+      placed = 0;
+      stopped = false;
+      source = source;
+    }

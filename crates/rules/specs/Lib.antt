@@ -1,0 +1,21 @@
+-- The rules of document 01 as definitions. Reading order: what they are written with;
+pub mod Lists
+-- the numbers and kinds of the paper ("When the engine says no", "The plan file");
+pub mod Refusals
+pub mod PipeKinds
+-- "Taking tokens";
+pub mod TakingTokens
+-- "Choices and join counters", over any source of tokens;
+pub mod Sources
+pub mod RunState
+pub mod Ranges
+pub mod Choices
+pub mod Answers
+-- "The plain sheet and whole runs";
+pub mod PlainSheet
+pub mod Chains
+pub mod WholeRuns
+-- "Plans with known orders";
+pub mod KnownOrders
+-- and what it is for one source of tokens to do as another.
+pub mod RelatedSources

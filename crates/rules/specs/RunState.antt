@@ -1,0 +1,58 @@
+-- The state of a run, over any source of tokens (01, "Choices and join counters").
+use mathlib.Core.Bool.{Bool, true, false}
+use mathlib.Core.List.{List}
+use Prim.Native.Nat.{ℕ, _+_, _*_}
+use lib.ListN.{getD}
+use Rattle.rules.specs.declared.Slot.{Slot}
+use Rattle.rules.specs.PipeKinds.{fullOf, kindIf}
+
+-- a plan, but for its records: P, L, N, and which pipes are serial
+pub record Pipeline : Type 0 where
+  pub pipes : ℕ
+  pub lines : ℕ
+  pub tokens : ℕ
+  pub serial : List Bool
+
+-- the state of a run: its plan and W; the join counters, 16 to a line; what each line does; how many places were
+-- given; whether it is marked stopped; and where its tokens come from
+pub record Machine (X : Type 0) : Type 0 where
+  pub pipes : ℕ
+  pub lines : ℕ
+  pub tokens : ℕ
+  pub workers : ℕ
+  pub serial : List Bool
+  pub counters : List ℕ
+  pub slots : List Slot
+  pub placed : ℕ
+  pub stopped : Bool
+  pub source : X
+
+-- a line that waits at pipe 0: it holds no token
+abbrev pub idle : Slot
+idle = record { pipe = record { 0 = 0 }; running = false; token = record { 0 = 0 }; place = record { 0 = 0 } }
+
+-- a line that runs a pipe, with its token and place
+abbrev pub runs : ℕ → ℕ → ℕ → Slot
+runs p t k = record { pipe = record { 0 = p }; running = true; token = record { 0 = t }; place = record { 0 = k } }
+
+-- a line that waits at a pipe, with its token and place
+abbrev pub waits : ℕ → ℕ → ℕ → Slot
+waits p t k = record { pipe = record { 0 = p }; running = false; token = record { 0 = t }; place = record { 0 = k } }
+
+-- "There is a counter for each line and pipe", of 512 (32 × 16)
+abbrev pub counterAt : ℕ → ℕ → ℕ
+counterAt l p = 16 * l + p
+
+-- a line's slot, a line's counter at a pipe, and whether a pipe is serial
+abbrev pub slotOf : {X : Type 0} → Machine X → ℕ → Slot
+slotOf m l = getD (m .slots) l idle
+
+abbrev pub counterOf : {X : Type 0} → Machine X → ℕ → ℕ → ℕ
+counterOf m l p = getD (m .counters) (counterAt l p) 0
+
+abbrev pub isSerial : {X : Type 0} → Machine X → ℕ → Bool
+isSerial m p = getD (m .serial) p false
+
+-- the full value of a counter at a pipe that is serial, or is not
+abbrev pub full : Bool → ℕ
+full serial = fullOf (kindIf serial)

@@ -1,0 +1,16 @@
+pub mod FactsLaws
+pub mod StateLaws
+pub mod TakingLaws
+pub mod ReleasingLaws
+pub mod Passes
+pub mod Moves
+pub mod RuleTaking
+pub mod RuleReleasing
+pub mod MemoryLaws
+pub mod MatchTaking
+pub mod MatchReleasing
+pub mod Joint
+pub mod Beyond
+pub mod SameLength
+pub mod Refines
+pub mod CallLaws

@@ -1,0 +1,239 @@
+-- Taking keeps the match between the tables in memory and the rules' tables, and gives the same token.
+use mathlib.Core.Path.{_≡_, refl, sym, ap, ap₂, _∙_, fun-ext, subst}
+use mathlib.Core.Bool.{Bool, true, false, true≢false}
+use mathlib.Core.List.{List, [], _∷_, _++_}
+use Prim.Native.Nat.{ℕ, suc, _+_, _-_, _<_, _≤_}
+use native.Mathlib.Omega.{arith}
+use borrow.Author.Tests.{lt-ltb, le-ltb, le-leb, eqb-true, eqb-false, ltb-true, ltb-false, leb-true}
+use lib.Dec.{leb, ltb, eqb}
+use lib.ListN.{length, getD, take, drop}
+use lib.Seq.{take-take, sets, slice, slice-cons, length-slice, length-sets}
+use Rattle.rules.specs.Lists.{if, has}
+use Rattle.rules.specs.TakingTokens.{none, took, tokensOf, takeNew, takeFrom}
+use Rattle.rules.specs.TakingTokens as rules
+use Rattle.rules.specs.Sources.{Taken as Outcome, Nothing, Took}
+use Rattle.tables.specs.declared.Tables.{Tables}
+use Rattle.tables.specs.declared.Count.{Count}
+use Rattle.tables.specs.Facts.{standingOf}
+use Rattle.tables.specs.State.{State, span, marks}
+use Rattle.rules.specs.Lists.{range}
+use Rattle.tables.specs.Taking.{findOf, deferredUpto, withCount, takeUpto, takeReady, takeOf}
+use Rattle.rules.specs.Lists.{Below}
+use Rattle.tables.specs.Matching.{Standing, Match, nobody, only}
+use Rattle.rules.proofs.lists.Tests.{if-same, if-eta, by-test}
+use Rattle.rules.proofs.lists.Members.{below-range, length-range}
+use Rattle.tables.proofs.StateLaws.{take-sets, drop-sets, drop-more, facts-length}
+use Rattle.tables.proofs.MemoryLaws.{length-marks, take-marks, drop-marks, standing-marks, recorded-same, slice-append, slice-same}
+use Rattle.tables.proofs.RuleTaking.{Passing, after, Together, new-tokens, new-standing, tokens-after, marked}
+
+-- the memory's outcome of taking stands for the rules' one
+abbrev pub TakenMatch : ℕ → (ℕ → List ℕ) → rules.Taken → Outcome State → Type 0
+TakenMatch tokens numbers (none a) o = (x : State) × (o ≡ Nothing x) × Match tokens numbers a x nobody
+TakenMatch tokens numbers (took n a) o = (x : State) × (o ≡ Took n x) × Match tokens numbers a x (only n)
+
+-- the standings after the oldest ready token left the queue
+ready-standing : (numbers : ℕ → List ℕ) (a : rules.Tables) (s : ℕ → ℕ) (n : ℕ) (rest : List ℕ) → a .ready ≡ n ∷ rest → Standing numbers a s nobody
+  → Standing numbers (record { count = a .count; ready = rest; deferred = a .deferred }) s (only n)
+unfolding has
+ready-standing numbers a s n rest e p =
+    let has-is : (j : ℕ) → has (a .ready) j ≡ if (eqb n j) true (has rest j) = λ j. rw e in
+    let low : Below (a .count) (n ∷ rest) = rw e at (p .low-ready) in
+    record {
+      waiting = p .waiting;
+      marked = p .marked;
+      fresh = p .fresh;
+      settled = λ j l x y o. p .settled j l x (rw (has-is j, o) y) refl;
+      apart = λ j y. p .apart j (rw (has-is j, y) (if-same (eqb n j) true));
+      outside = λ j o. (p .apart j (rw (has-is j, o)), (let j-is : n ≡ j = eqb-true n j o in omega (arith, low .0)));
+      low = p .low;
+      low-ready = low .1 }
+
+module _ (tokens : ℕ) (numbers : ℕ → List ℕ) (a : rules.Tables) (t : Tables) (m : List ℕ) (p : Match tokens numbers a (t, m) nobody) where
+  -- a ready token
+  pub ready-match : (n : ℕ) (rest : List ℕ) → a .ready ≡ n ∷ rest
+    → TakenMatch tokens numbers (took n (record { count = a .count; ready = rest; deferred = a .deferred })) (takeOf t m)
+  unfolding takeOf takeReady
+  ready-match n rest e =
+      let long : length (slice (28672 + t .first) (28672 + t .end) m) ≡ (28672 + t .end) - (28672 + t .first) =
+        length-slice (28672 + t .first) (28672 + t .end) m (omega (arith, p .range .end, p .whole)) in
+      let some : t .first < t .end = omega (arith, long, ap length (p .queue ∙ e)) in
+      let cells : getD m (28672 + t .first) 0 ∷ slice (suc (28672 + t .first)) (28672 + t .end) m ≡ n ∷ rest =
+        sym (slice-cons (28672 + t .first) (28672 + t .end) m 0 (omega arith) (omega (arith, p .range .end, p .whole))) ∙ p .queue ∙ e in
+      let token-is : getD m (28672 + t .first) 0 ≡ n = cc in
+      let rest-is : slice (suc (28672 + t .first)) (28672 + t .end) m ≡ rest = cc in
+      let low : n < a .count = (rw e at (p .standing .low-ready)) .0 in
+      let next : suc (28672 + t .first) ≡ 28672 + (t .first + 1) = omega arith in
+      ((record { tokens = t .tokens; count = t .count; first = t .first + 1; end = t .end; held = t .held }, m),
+        rw (lt-ltb (t .first) (t .end) some, token-is, lt-ltb n (t .tokens) (omega (arith, p .range .count, p .count))),
+        record {
+          range = record { tokens = p .range .tokens; count = p .range .count; queue = omega arith; end = p .range .end; held = p .range .held };
+          whole = p .whole;
+          size = p .size;
+          count = p .count;
+          room = p .room;
+          queue = rw next at rest-is;
+          table = p .table;
+          records = p .records;
+          standing = ready-standing numbers a (standingOf (take 24576 m)) n rest e (p .standing) })
+
+  -- with no token ready, k tokens are deferred
+  module _ (k count : ℕ) (out : ℕ → Bool) (past : a .count + k ≤ count) (inside : count ≤ tokens)
+    (after-standing : Standing numbers (after numbers (take 24576 m) (a .count) a k count) (marked (standingOf (take 24576 m)) 1 (range (a .count) k)) out) where
+    passed : List ℕ
+    passed = range (a .count) k
+
+    entered : List ℕ
+    entered = sets m (24576 + t .held) (range (a .count) k)
+
+    left : List ℕ
+    left = marks entered 1 passed
+
+    passed-length : length passed ≡ k
+    unfolding passed
+    passed-length = length-range (a .count) k
+
+    passed-below : Below 4096 passed
+    unfolding passed
+    passed-below = below-range 4096 (a .count) k (omega (arith, p .range .tokens, p .size))
+
+    entered-length : length entered ≡ length m
+    unfolding entered
+    entered-length = length-sets m (24576 + t .held) (range (a .count) k)
+
+    left-length : length left ≡ length m
+    unfolding left
+    left-length = length-marks entered 1 passed ∙ entered-length
+
+    facts-entered : take 24576 entered ≡ take 24576 m
+    unfolding entered
+    facts-entered = take-sets (range (a .count) k) m (24576 + t .held) 24576 (omega arith)
+
+    tables-left : drop 24576 left ≡ drop 24576 entered
+    unfolding left
+    tables-left = drop-marks entered 1 passed passed-below
+
+    queue-left : drop 28672 left ≡ drop 28672 m
+    unfolding entered passed
+    queue-left =
+        drop-more entered left 24576 28672 tables-left (omega arith)
+        ∙ drop-sets (range (a .count) k) m (24576 + t .held) 28672 (omega (arith, passed-length, p .room, p .count, p .range .tokens, p .size))
+
+    records-left : take 20480 (take 24576 left) ≡ take 20480 (take 24576 m)
+    unfolding left
+    records-left =
+        take-take 20480 24576 left (omega arith) ∙ take-marks entered 1 passed
+        ∙ sym (take-take 20480 24576 entered (omega arith)) ∙ ap (λ (l : List ℕ). take 20480 l) facts-entered
+
+    standing-left : standingOf (take 24576 left) ≡ marked (standingOf (take 24576 m)) 1 passed
+    unfolding left
+    standing-left =
+        fun-ext (λ n. standing-marks entered 1 passed (rw entered-length (p .whole)) passed-below n ∙ rw facts-entered)
+
+    table-left : slice 24576 (24576 + (t .held + k)) left ≡ tokensOf (a .deferred) ++ passed
+    unfolding entered passed
+    table-left =
+        let ends : 24576 + (t .held + k) ≡ 24576 + t .held + length (range (a .count) k) = omega (arith, passed-length) in
+        let fits : 24576 + t .held + length (range (a .count) k) ≤ length m = omega (arith, passed-length, p .room, p .count, p .range .tokens, p .size, p .whole) in
+        slice-same entered left 24576 24576 (24576 + (t .held + k)) tables-left (omega arith) (omega arith) (omega (arith, entered-length, passed-length)) (left-length ∙ sym entered-length)
+        ∙ (rw (← ends, p .table) at (slice-append (range (a .count) k) m 24576 (24576 + t .held) (omega arith) fits))
+
+    deferred-match : (count′ : ℕ) → count′ ≡ count → Match tokens numbers (after numbers (take 24576 m) (a .count) a k count) (withCount t (a .count + k) count′, left) out
+    unfolding passed
+    deferred-match count′ count-is =
+        let new : (a .count + k) - t .count ≡ k = omega (arith, p .count) in
+        record {
+          range = record { tokens = p .range .tokens; count = omega (arith, p .size); queue = p .range .queue; end = p .range .end; held = omega (arith, p .room, p .count, p .range .tokens, p .size) };
+          whole = rw left-length (p .whole);
+          size = p .size;
+          count = count-is;
+          room = omega (arith, p .room, p .count);
+          queue = slice-same m left 28672 (28672 + t .first) (28672 + t .end) queue-left (omega arith) (omega (arith, p .range .queue)) (omega (arith, p .range .end, p .whole)) left-length ∙ p .queue;
+          table = rw (new, tokens-after numbers (take 24576 m) (a .count) (a .deferred) (range (a .count) k)) table-left;
+          records = λ n l. recorded-same (take 24576 m) (take 24576 left) records-left n (omega (arith, p .range .tokens, p .size))
+            (omega (arith, facts-length m (p .whole))) (omega (arith, facts-length left (rw left-length (p .whole)))) (p .records n l);
+          standing = rw standing-left after-standing }
+
+  module _ (self : (n : ℕ) → has (numbers n) n ≡ false) (none-ready : a .ready ≡ []) where
+    nothing-passed : Passing (take 24576 m) (a .count) a
+    nothing-passed =
+        record {
+          from = omega arith;
+          held = λ n. p .standing .marked n ∙ sym (ap (λ b. if (eqb (standingOf (take 24576 m) n) 1) true b) (none n) ∙ if-eta (eqb (standingOf (take 24576 m) n) 1)) }
+      where
+        none : (n : ℕ) → if (leb (a .count) n) (ltb n (a .count)) false ≡ false
+        none n = by-test (leb (a .count) n) (λ e. rw (e, le-ltb n (a .count) (leb-true (a .count) n e))) (λ e. rw e)
+
+    together : Together numbers (take 24576 m) (a .count) tokens (tokens - a .count) a
+    together = new-tokens numbers (take 24576 m) (a .count) tokens (tokens - a .count) a (p .records) nothing-passed (omega (arith, p .range .count, p .count, p .size))
+
+    k : ℕ
+    k = together .0
+
+    queue-empty : t .end ≤ t .first
+    unfolding has
+    queue-empty =
+        omega (arith, length-slice (28672 + t .first) (28672 + t .end) m (omega (arith, p .range .end, p .whole)), ap length (p .queue ∙ none-ready))
+
+    -- the memory takes up to the same token
+    found : findOf (take 24576 m) (t .tokens) (t .count) ≡ Count.Known (a .count + k)
+    unfolding findOf k
+    found = ap₂ (λ n c. findOf (take 24576 m) n c) (p .size) (p .count) ∙ together .2
+
+    takes : takeOf t m ≡ takeUpto t m (Count.Known (a .count + k))
+    unfolding takeOf
+    takes = rw (le-ltb (t .first) (t .end) queue-empty, found)
+
+    memory-is : deferredUpto t (a .count + k) m ≡ marks (sets m (24576 + t .held) (range (a .count) k)) 1 (range (a .count) k)
+    unfolding deferredUpto
+    memory-is = ap (λ l. marks (sets m (24576 + t .held) l) 1 l) span-is
+      where
+        span-is : span (t .count) (a .count + k) ≡ range (a .count) k
+        span-is = ap₂ range (p .count) (omega (arith, p .count))
+
+    room-left : leb (t .held + ((a .count + k) - t .count)) 4096 ≡ true
+    unfolding k
+    room-left = le-leb (t .held + ((a .count + together .0) - t .count)) 4096 (omega (arith, together .1, p .room, p .count, p .size, p .range .count, p .range .tokens))
+
+    last-within : a .count + k ≤ tokens
+    unfolding k
+    last-within = omega (arith, together .1, p .range .count, p .count, p .size)
+
+    took-match : ltb (a .count + k) tokens ≡ true
+      → TakenMatch tokens numbers (took (a .count + k) (after numbers (take 24576 m) (a .count) a k (suc (a .count + k)))) (takeOf t m)
+    unfolding takeUpto left entered passed k
+    took-match e =
+        let u : ℕ = a .count + together .0 in
+        let less : u < tokens = ltb-true u tokens e in
+        let standing =
+          new-standing numbers self (take 24576 m) a (p .standing) none-ready (together .0) (suc u) (only u) (omega arith) (together .4)
+          (λ n l o. omega (arith, eqb-false u n o)) (λ n o. let n-is : u ≡ n = eqb-true u n o in omega arith) in
+        ((withCount t u (u + 1), marks (sets m (24576 + t .held) (range (a .count) (together .0))) 1 (range (a .count) (together .0))),
+          takes ∙ rw (room-left, lt-ltb u (t .tokens) (omega (arith, p .size)), memory-is),
+          deferred-match (together .0) (suc u) (only u) (omega arith) (omega arith) standing (u + 1) (omega arith))
+
+    none-match : ltb (a .count + k) tokens ≡ false
+      → TakenMatch tokens numbers (none (after numbers (take 24576 m) (a .count) a k (a .count + k))) (takeOf t m)
+    unfolding takeUpto left entered passed k
+    none-match e =
+        let u : ℕ = a .count + together .0 in
+        let standing =
+          new-standing numbers self (take 24576 m) a (p .standing) none-ready (together .0) u nobody (omega arith) (together .4)
+          (λ n l o. l) (λ n o. absurd (true≢false (sym o))) in
+        ((withCount t u u, marks (sets m (24576 + t .held) (range (a .count) (together .0))) 1 (range (a .count) (together .0))),
+          takes ∙ rw (room-left, le-ltb u (t .tokens) (omega (arith, p .size, ltb-false u tokens e)), memory-is),
+          deferred-match (together .0) u nobody (omega arith) last-within standing u refl)
+
+    pub new-match : TakenMatch tokens numbers (takeNew numbers (tokens - a .count) a) (takeOf t m)
+    unfolding k
+    new-match =
+        subst (λ r. TakenMatch tokens numbers r (takeOf t m)) (sym (together .3))
+        (by-test (ltb (a .count + together .0) tokens) (λ e. rw e (took-match e)) (λ e. rw e (none-match e)))
+
+  -- taking, from the ready queue or a new token
+  pub take-match : ((n : ℕ) → has (numbers n) n ≡ false) → TakenMatch tokens numbers (rules.take tokens numbers a) (takeOf t m)
+  unfolding rules.take takeFrom
+  take-match self = go (a .ready) refl
+    where
+      go : (l : List ℕ) → a .ready ≡ l → TakenMatch tokens numbers (takeFrom numbers (tokens - a .count) l a) (takeOf t m)
+      go [] e = new-match self e
+      go (n ∷ rest) e = ready-match n rest e

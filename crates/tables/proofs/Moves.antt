@@ -1,0 +1,111 @@
+-- The passes of a release, one after the other: together they leave the memory of `movedMemory`.
+use mathlib.Core.Path.{_≡_, refl, sym, ap, _∙_}
+use mathlib.Core.Bool.{Bool, true, false, not}
+use mathlib.Core.List.{List, [], _∷_}
+use Prim.Native.Nat.{ℕ, suc, _+_, _-_, _<_, _≤_}
+use native.Mathlib.Omega.{arith}
+use borrow.Author.Tests.{leb-false}
+use lib.Dec.{leb}
+use lib.ListN.{length, set, take, drop, replicate, length-replicate}
+use lib.Seq.{sets, slice, length-sets, length-slice}
+use Rattle.rules.specs.Lists.{if, keep}
+use Rattle.tables.specs.declared.Tables.{Tables}
+use Rattle.tables.specs.declared.Test.{Test}
+use Rattle.tables.specs.Facts.{wakesOf}
+use Rattle.tables.specs.State.{InRange, marks, tableOf}
+use Rattle.tables.specs.Releasing.{isYes, wokenOf, stayingOf, wokenIn, stayingIn, movedTables, movedMemory}
+use Rattle.rules.specs.Lists.{Below}
+use Rattle.tables.proofs.StateLaws.{take-sets, drop-sets, slice-before, slice-from, slice-sets}
+
+-- at most all elements pass a test, and what a test implies holds of all that pass
+keep-length : {A : Type 0} (p : A → Bool) (l : List A) → length (keep p l) ≤ length l
+unfolding keep
+keep-length p [] = omega arith
+keep-length p (a ∷ l) = go (p a) (keep-length p l)
+  where
+    go : (b : Bool) → length (keep p l) ≤ length l → length (if b (a ∷ keep p l) (keep p l)) ≤ suc (length l)
+    go true h = omega arith
+    go false h = omega arith
+
+keep-below : (n : ℕ) (p : ℕ → Bool) → ((t : ℕ) → p t ≡ true → t < n) → (l : List ℕ) → Below n (keep p l)
+unfolding keep
+keep-below n p h [] = tt
+keep-below n p h (a ∷ l) = go (p a) refl (keep-below n p h l)
+  where
+    go : (b : Bool) → p a ≡ b → Below n (keep p l) → Below n (if b (a ∷ keep p l) (keep p l))
+    go true e r = (h a e, r)
+    go false e r = r
+
+-- a token that wakes is below N
+wakes-below : (f : List ℕ) (tokens d t : ℕ) → isYes (wakesOf f tokens d t) ≡ true → t < tokens
+unfolding wakesOf
+wakes-below f tokens d t = go (leb tokens t) refl _
+  where
+    go : (b : Bool) → leb tokens t ≡ b → (x : Test) → isYes (if b Test.Unsound x) ≡ true → t < tokens
+    go true e x h = let z : _≡_ {A = ℕ} 0 1 = cc in omega arith
+    go false e x h = leb-false tokens t e
+
+module _ (t : Tables) (d : ℕ) (m : List ℕ) (ok : InRange t) (whole : 32768 ≤ length m) where
+  pub staying-length : length (stayingIn t d m) ≤ t .held
+  unfolding stayingOf
+  staying-length = omega (arith, keep-length (λ n. not (isYes (wakesOf (take 24576 m) (t .tokens) d n))) (tableOf t m), length-slice 24576 (24576 + t .held) m (omega arith))
+
+  pub woken-below : Below 4096 (wokenIn t d m)
+  unfolding wokenOf
+  woken-below = keep-below 4096 (λ n. isYes (wakesOf (take 24576 m) (t .tokens) d n)) (λ n h. omega (arith, wakes-below (take 24576 m) (t .tokens) d n h)) (tableOf t m)
+
+  module _ {m₁ : List ℕ} (queued : m₁ ≡ sets m (28672 + t .end) (wokenIn t d m)) where
+    -- the facts and the deferred table are still as they were
+    pub staying-same : stayingOf (wakesOf (take 24576 m₁) (t .tokens) d) (slice 24576 (24576 + t .held) m₁) ≡ stayingIn t d m
+    staying-same =
+        rw (queued, take-sets (wokenIn t d m) m (28672 + t .end) 24576 (omega arith),
+          slice-before (wokenIn t d m) m (28672 + t .end) 24576 (24576 + t .held) (omega arith))
+
+    module _ {kept : ℕ} (ends : kept ≡ 24576 + length (stayingOf (wakesOf (take 24576 m₁) (t .tokens) d) (slice 24576 (24576 + t .held) m₁))) where
+      pub kept-is : kept ≡ 24576 + length (stayingIn t d m)
+      kept-is = rw staying-same at ends
+
+      pub kept-within : (24576 ≤ kept) × (kept ≤ 24576 + t .held)
+      kept-within = omega (arith, kept-is, staying-length)
+
+      module _ {m₂ m₃ : List ℕ}
+        (closed : m₂ ≡ sets m₁ 24576 (stayingOf (wakesOf (take 24576 m₁) (t .tokens) d) (slice 24576 (24576 + t .held) m₁)))
+        (cleared : m₃ ≡ sets m₂ kept (replicate (24576 + t .held - kept) 0)) where
+        -- the memory after clearing, from the first
+        cleared-is : m₃ ≡ sets (sets (sets m (28672 + t .end) (wokenIn t d m)) 24576 (stayingIn t d m)) (24576 + length (stayingIn t d m))
+          (replicate (t .held - length (stayingIn t d m)) 0)
+        cleared-is =
+            let zeros : 24576 + t .held - (24576 + length (stayingIn t d m)) ≡ t .held - length (stayingIn t d m) = omega arith in
+            rw (cleared, closed, staying-same, queued, kept-is, zeros)
+
+        -- the cells of the ready queue from its end on hold the woken tokens
+        pub queue-is : {n : ℕ} → n ≡ length (wokenIn t d m) → t .end + n ≤ 4096 → slice (28672 + t .end) (28672 + t .end + n) m₃ ≡ wokenIn t d m
+        queue-is {n} n-is room =
+            let s : List ℕ = stayingIn t d m in
+            let q : List ℕ = sets m (28672 + t .end) (wokenIn t d m) in
+            let k : ℕ = t .held - length s in
+            let same : drop (28672 + t .end) m₃ ≡ drop (28672 + t .end) q =
+              rw cleared-is
+              (drop-sets (replicate k 0) (sets q 24576 s) (24576 + length s) (28672 + t .end) (omega (arith, staying-length, length-replicate {A = ℕ} k 0))
+              ∙ drop-sets s q 24576 (28672 + t .end) (omega (arith, staying-length))) in
+            let long : length q ≡ length m = length-sets m (28672 + t .end) (wokenIn t d m) in
+            let long₃ : length m₃ ≡ length m = rw cleared-is (simp length-sets) in
+            slice-from m₃ (28672 + t .end) n (omega arith)
+            ∙ ap (λ (l : List ℕ). take n l) same
+            ∙ sym (slice-from q (28672 + t .end) n (omega arith))
+            ∙ rw n-is (slice-sets (wokenIn t d m) m (28672 + t .end) (omega arith))
+
+        pub moved-is : {n : ℕ} {m₄ : List ℕ} → n ≡ length (wokenIn t d m) → t .end + n ≤ 4096 → m₄ ≡ marks m₃ 2 (slice (28672 + t .end) (28672 + t .end + n) m₃)
+          → set m₄ (20480 + d) 3 ≡ movedMemory t d m
+        unfolding movedMemory
+        moved-is n-is room marked = rw (marked, queue-is n-is room, cleared-is)
+
+        pub marks-allowed : {n : ℕ} → n ≡ length (wokenIn t d m) → t .end + n ≤ 4096 → Below 4096 (slice (28672 + t .end) (28672 + t .end + n) m₃)
+        marks-allowed n-is room = rw (queue-is n-is room) woken-below
+
+      pub tables-are : {n : ℕ} → n ≡ length (wokenIn t d m)
+        → _≡_ {A = Tables} (record { tokens = t .tokens; count = t .count; first = t .first; end = t .end + n; held = kept - 24576 }) (movedTables t d m)
+      unfolding movedTables
+      tables-are n-is =
+          let h : 24576 + length (stayingIn t d m) - 24576 ≡ length (stayingIn t d m) = omega arith in
+          rw (n-is, kept-is, h)

@@ -1,0 +1,177 @@
+-- The loops that write at a release: for each, what holds at every turn, that a turn keeps it, and what it gives at the end.
+use mathlib.Core.Path.{_≡_, ap, _∙_}
+use mathlib.Core.Bool.{Bool, true, false}
+use mathlib.Core.List.{List, [], _∷_}
+use Prim.Native.Nat.{ℕ, _+_, _<_, _≤_}
+use native.Mathlib.Omega.{arith}
+use lib.ListN.{length, getD, set, take, drop, length-set}
+use lib.Seq.{sets, slice, take-set-le, drop-set-lt}
+use Rattle.tables.specs.Facts.{wakesOf}
+use Rattle.tables.specs.State.{marks}
+use Rattle.tables.specs.Releasing.{isYes, wokenOf, stayingOf}
+use Rattle.rules.specs.Lists.{Below}
+use Rattle.tables.proofs.StateLaws.{take-less, drop-more, cell-below, cell-from, sets-store, sets-none, marks-store, marks-none}
+use Rattle.tables.proofs.ReleasingLaws.{cells-next, cells-end, woken-yes, woken-no, woken-end, staying-yes, staying-no, staying-end, seen}
+
+-- the tokens that wake, or stay, from a cell on, as the memory was at first
+abbrev pub wakeFrom : List ℕ → ℕ → ℕ → ℕ → ℕ → List ℕ
+wakeFrom m tokens d last cell = wokenOf (wakesOf (take 24576 m) tokens d) (slice cell last m)
+
+abbrev pub stayFrom : List ℕ → ℕ → ℕ → ℕ → ℕ → List ℕ
+stayFrom m tokens d last cell = stayingOf (wakesOf (take 24576 m) tokens d) (slice cell last m)
+
+-- appending to the ready queue: all below it is as at first, and what is left to append gives the whole
+pub record Appending (m₀ : List ℕ) (tokens d last end : ℕ) (m : List ℕ) (at cell : ℕ) : Type 0 where
+  pub whole : 32768 ≤ length m₀
+  pub inside : last ≤ 28672
+  pub long : length m ≡ length m₀
+  pub from : 24576 ≤ cell
+  pub upto : cell ≤ last
+  pub high : 28672 ≤ at
+  pub room : at + length (wakeFrom m₀ tokens d last cell) ≤ 32768
+  pub same : take 28672 m ≡ take 28672 m₀
+  pub left : sets m₀ end (wakeFrom m₀ tokens d last 24576) ≡ sets m at (wakeFrom m₀ tokens d last cell)
+
+-- closing up the deferred table: the facts and the cells not yet read are as at first
+pub record Closing (m₀ : List ℕ) (tokens d last : ℕ) (m : List ℕ) (at cell : ℕ) : Type 0 where
+  pub whole : 32768 ≤ length m₀
+  pub inside : last ≤ 28672
+  pub long : length m ≡ length m₀
+  pub from : 24576 ≤ at
+  pub behind : at ≤ cell
+  pub upto : cell ≤ last
+  pub same : take 24576 m ≡ take 24576 m₀
+  pub ahead : drop cell m ≡ drop cell m₀
+  pub end : 24576 + length (stayFrom m₀ tokens d last 24576) ≡ at + length (stayFrom m₀ tokens d last cell)
+  pub left : sets m₀ 24576 (stayFrom m₀ tokens d last 24576) ≡ sets m at (stayFrom m₀ tokens d last cell)
+
+module _ {m₀ : List ℕ} {tokens d last : ℕ} {m : List ℕ} {at cell : ℕ} {r : Bool} where
+  module _ {end : ℕ} (inv : Appending m₀ tokens d last end m at cell) (more : cell < last) (test : r ≡ isYes (wakesOf (take 24576 m) tokens d (getD m cell 0))) where
+    token-is : getD m cell 0 ≡ getD m₀ cell 0
+    token-is = cell-below m₀ m 28672 cell (inv .same) (omega arith)
+
+    test₀ : r ≡ isYes (wakesOf (take 24576 m₀) tokens d (getD m₀ cell 0))
+    test₀ = seen tokens d (take-less m₀ m 28672 24576 (inv .same) (omega arith)) token-is test
+
+    first-wakes : r ≡ true → wakeFrom m₀ tokens d last cell ≡ getD m₀ cell 0 ∷ wakeFrom m₀ tokens d last (cell + 1)
+    first-wakes e = woken-yes (wakesOf (take 24576 m₀) tokens d) m₀ cell last more (omega arith) test₀ e
+
+    pub append-room : r ≡ true → at < 32768
+    append-room e = omega (arith, ap length (first-wakes e), inv .room)
+
+    pub append-yes : r ≡ true → Appending m₀ tokens d last end (set m at (getD m cell 0)) (at + 1) (cell + 1)
+    append-yes e =
+        record {
+          whole = inv .whole;
+          inside = inv .inside;
+          long = simp length-set (inv .long);
+          from = omega arith;
+          upto = omega arith;
+          high = omega arith;
+          room = omega (arith, ap length (first-wakes e), inv .room);
+          same = take-set-le 28672 m at (getD m cell 0) (inv .high) ∙ inv .same;
+          left = sets-store m at (inv .left) (first-wakes e) token-is }
+
+    pub append-no : r ≡ false → Appending m₀ tokens d last end m at (cell + 1)
+    append-no e =
+        let rest : wakeFrom m₀ tokens d last cell ≡ wakeFrom m₀ tokens d last (cell + 1) =
+          woken-no (wakesOf (take 24576 m₀) tokens d) m₀ cell last more (omega arith) test₀ e in
+        record {
+          whole = inv .whole;
+          inside = inv .inside;
+          long = inv .long;
+          from = omega arith;
+          upto = omega arith;
+          high = inv .high;
+          room = rw rest at (inv .room);
+          same = inv .same;
+          left = rw rest at (inv .left) }
+
+  module _ (inv : Closing m₀ tokens d last m at cell) (more : cell < last) (test : r ≡ isYes (wakesOf (take 24576 m) tokens d (getD m cell 0))) where
+    closing-token : getD m cell 0 ≡ getD m₀ cell 0
+    closing-token = cell-from m₀ m cell cell (inv .ahead) (omega arith)
+
+    closing-test : r ≡ isYes (wakesOf (take 24576 m₀) tokens d (getD m₀ cell 0))
+    closing-test = seen tokens d (inv .same) closing-token test
+
+    pub close-yes : r ≡ true → Closing m₀ tokens d last m at (cell + 1)
+    close-yes e =
+        let rest : stayFrom m₀ tokens d last cell ≡ stayFrom m₀ tokens d last (cell + 1) =
+          staying-yes (wakesOf (take 24576 m₀) tokens d) m₀ cell last more (omega arith) closing-test e in
+        record {
+          whole = inv .whole;
+          inside = inv .inside;
+          long = inv .long;
+          from = inv .from;
+          behind = omega arith;
+          upto = omega arith;
+          same = inv .same;
+          ahead = drop-more m₀ m cell (cell + 1) (inv .ahead) (omega arith);
+          end = rw rest at (inv .end);
+          left = rw rest at (inv .left) }
+
+    pub close-no : r ≡ false → Closing m₀ tokens d last (set m at (getD m cell 0)) (at + 1) (cell + 1)
+    close-no e =
+        let rest : stayFrom m₀ tokens d last cell ≡ getD m₀ cell 0 ∷ stayFrom m₀ tokens d last (cell + 1) =
+          staying-no (wakesOf (take 24576 m₀) tokens d) m₀ cell last more (omega arith) closing-test e in
+        record {
+          whole = inv .whole;
+          inside = inv .inside;
+          long = simp length-set (inv .long);
+          from = omega arith;
+          behind = omega arith;
+          upto = omega arith;
+          same = take-set-le 24576 m at (getD m cell 0) (inv .from) ∙ inv .same;
+          ahead = drop-set-lt (cell + 1) m at (getD m cell 0) (omega arith) ∙ drop-more m₀ m cell (cell + 1) (inv .ahead) (omega arith);
+          end = inv .end ∙ omega (arith, ap length rest);
+          left = sets-store m at (inv .left) rest closing-token }
+
+-- at the last cell nothing is left
+pub append-end : {m₀ : List ℕ} {tokens d last end : ℕ} {m : List ℕ} {at cell : ℕ} → Appending m₀ tokens d last end m at cell → last ≤ cell
+  → m ≡ sets m₀ end (wakeFrom m₀ tokens d last 24576)
+append-end {m₀} {tokens} {d} {last} {end} {m} {at} {cell} inv h =
+    sets-none m at (inv .left) (woken-end (wakesOf (take 24576 m₀) tokens d) m₀ cell last (inv .upto) h)
+
+module _ {m₀ : List ℕ} {tokens d last : ℕ} {m : List ℕ} {at cell : ℕ} (inv : Closing m₀ tokens d last m at cell) (h : last ≤ cell) where
+  close-none : stayFrom m₀ tokens d last cell ≡ []
+  close-none = staying-end (wakesOf (take 24576 m₀) tokens d) m₀ cell last (inv .upto) h
+
+  pub close-end : at ≡ 24576 + length (stayFrom m₀ tokens d last 24576)
+  close-end = omega (arith, inv .end, ap length close-none)
+
+  pub close-memory : m ≡ sets m₀ 24576 (stayFrom m₀ tokens d last 24576)
+  close-memory = sets-none m at (inv .left) close-none
+
+-- marking the tokens in some cells: these cells are as at first, and their tokens are below 4,096
+pub record Marking (m₀ : List ℕ) (from to : ℕ) (m : List ℕ) (cell : ℕ) : Type 0 where
+  pub long : length m ≡ length m₀
+  pub high : 24576 ≤ cell
+  pub upto : cell ≤ to
+  pub same : drop 24576 m ≡ drop 24576 m₀
+  pub below : Below 4096 (slice cell to m₀)
+  pub left : marks m₀ 2 (slice from to m₀) ≡ marks m 2 (slice cell to m₀)
+
+module _ {m₀ : List ℕ} {from to : ℕ} {m : List ℕ} {cell : ℕ} (inv : Marking m₀ from to m cell) where
+  pub mark-end : to ≤ cell → m ≡ marks m₀ 2 (slice from to m₀)
+  mark-end h = marks-none m 2 (inv .left) (cells-end m₀ cell to (inv .upto) h)
+
+  module _ (more : cell < to) (inside : to ≤ length m₀) where
+    marking-token : getD m cell 0 ≡ getD m₀ cell 0
+    marking-token = cell-from m₀ m 24576 cell (inv .same) (inv .high)
+
+    marking-below : (getD m₀ cell 0 < 4096) × Below 4096 (slice (cell + 1) to m₀)
+    marking-below = rw (cells-next m₀ cell to more inside) at (inv .below)
+
+    pub mark-below : getD m cell 0 < 4096
+    mark-below = rw marking-token (marking-below .0)
+
+    pub mark-next : {u : ℕ} → u ≡ getD m cell 0 → Marking m₀ from to (set m (20480 + u) 2) (cell + 1)
+    mark-next {u} u-is =
+        let low : u < 4096 = rw u-is mark-below in
+        record {
+          long = simp length-set (inv .long);
+          high = omega arith;
+          upto = omega arith;
+          same = drop-set-lt 24576 m (20480 + u) 2 (omega arith) ∙ inv .same;
+          below = marking-below .1;
+          left = marks-store m 2 (inv .left) (cells-next m₀ cell to more inside) (u-is ∙ marking-token) }

@@ -1,0 +1,144 @@
+-- Spans of tokens, runs of stores and marks, one step at a time, and what they leave alone.
+use mathlib.Core.Path.{_≡_, refl, sym, ap, _∙_}
+use mathlib.Core.Bool.{Bool, true, false}
+use mathlib.Core.List.{List, [], _∷_, _++_}
+use Prim.Native.Nat.{ℕ, suc, _+_, _-_, _<_, _≤_}
+use native.Mathlib.Omega.{arith}
+use native.Mathlib.Numerals.{add-one}
+use borrow.Author.Tests.{le-leb, leb-true}
+use lib.Dec.{leb}
+use lib.ListN.{length, getD, take, drop, set, replicate, length-append}
+use lib.Seq.{length-take-le, sets, sets-eq, slice, take-set-le, drop-set-lt, take-take, drop-drop, take-add, take-at, drop-at, getD-take, getD-drop}
+use Rattle.rules.specs.Lists.{if}
+use Rattle.tables.specs.declared.Tables.{Tables}
+use Rattle.tables.specs.Facts.{standingAt}
+use Rattle.tables.specs.State.{InRange, soundOf, span, marks}
+use Rattle.rules.specs.Lists.{range}
+
+-- the facts' part of the memory has its whole length
+pub facts-length : (m : List ℕ) → 32768 ≤ length m → length (take 24576 m) ≡ 24576
+facts-length m h = length-take-le 24576 m (omega arith)
+
+-- a span is empty from its end on, and begins with its first token before
+pub span-nil : (i n : ℕ) → n ≤ i → span i n ≡ []
+unfolding range
+span-nil i n h =
+    let e : n - i ≡ 0 = omega arith in
+    rw e
+
+pub span-cons : (i n : ℕ) → i < n → span i n ≡ i ∷ span (i + 1) n
+unfolding range
+span-cons i n h =
+    let e : n - i ≡ suc (n - suc i) = omega arith in
+    rw (add-one i, e)
+
+-- what is left to do at a step of a loop that stores, or marks, a span
+module _ (m : List ℕ) (at i n : ℕ) (more : i < n) where
+  pub sets-next : sets m at (span i n) ≡ sets (set m at i) (at + 1) (span (i + 1) n)
+  sets-next = rw (span-cons i n more, add-one at)
+
+pub sets-done : (m : List ℕ) (at i n : ℕ) → n ≤ i → sets m at (span i n) ≡ m
+sets-done m at i n h = rw (span-nil i n h)
+
+module _ (m : List ℕ) (v i n : ℕ) where
+  pub marks-next : {at : ℕ} → i < n → at ≡ i → marks m v (span i n) ≡ marks (set m (standingAt + at) v) v (span (i + 1) n)
+  unfolding marks
+  marks-next h at-is = rw (at-is, span-cons i n h)
+
+  pub marks-done : n ≤ i → marks m v (span i n) ≡ m
+  unfolding marks
+  marks-done h = rw (span-nil i n h)
+
+-- two memories with the same cells below one, or from one on, have the same further down, or up, and the same single cells
+module _ (m m′ : List ℕ) (n k : ℕ) where
+  pub take-less : take n m′ ≡ take n m → k ≤ n → take k m′ ≡ take k m
+  take-less e h = sym (take-take k n m′ h) ∙ ap (λ (l : List ℕ). take k l) e ∙ take-take k n m h
+
+  pub drop-more : drop n m′ ≡ drop n m → n ≤ k → drop k m′ ≡ drop k m
+  drop-more e h =
+      let k-is : n + (k - n) ≡ k = omega arith in
+      rw k-is at (sym (drop-drop (k - n) n m′) ∙ ap (λ (l : List ℕ). drop (k - n) l) e ∙ drop-drop (k - n) n m)
+
+  pub cell-below : take n m′ ≡ take n m → k < n → getD m′ k 0 ≡ getD m k 0
+  cell-below e h = sym (getD-take n m′ k 0 h) ∙ ap (λ (l : List ℕ). getD l k 0) e ∙ getD-take n m k 0 h
+
+  pub cell-from : drop n m′ ≡ drop n m → n ≤ k → getD m′ k 0 ≡ getD m k 0
+  cell-from e h =
+      let k-is : n + (k - n) ≡ k = omega arith in
+      rw k-is at (sym (getD-drop n m′ (k - n) 0) ∙ ap (λ (l : List ℕ). getD l (k - n) 0) e ∙ getD-drop n m (k - n) 0)
+
+-- a store, where a list of values is left to store
+pub sets-store : {whole : List ℕ} (m : List ℕ) (at : ℕ) {vs ws : List ℕ} {u v : ℕ} → whole ≡ sets m at vs → vs ≡ v ∷ ws → u ≡ v → whole ≡ sets (set m at u) (at + 1) ws
+sets-store m at e vs-are u-is = rw (u-is, add-one at) (rw vs-are at e)
+
+pub sets-none : {whole : List ℕ} (m : List ℕ) (at : ℕ) {vs : List ℕ} → whole ≡ sets m at vs → vs ≡ [] → m ≡ whole
+sets-none m at e vs-are = sym (rw vs-are at e)
+
+-- a mark, where a list of tokens is left to mark
+pub marks-store : {whole : List ℕ} (m : List ℕ) (s : ℕ) {ts us : List ℕ} {t u : ℕ} → whole ≡ marks m s ts → ts ≡ t ∷ us → u ≡ t → whole ≡ marks (set m (20480 + u) s) s us
+unfolding marks
+marks-store m s e ts-are u-is = rw u-is (rw ts-are at e)
+
+pub marks-none : {whole : List ℕ} (m : List ℕ) (s : ℕ) {ts : List ℕ} → whole ≡ marks m s ts → ts ≡ [] → m ≡ whole
+unfolding marks
+marks-none m s e ts-are = sym (rw ts-are at e)
+
+-- a run of zeros up to a cell: empty from that cell on, and one more before it
+pub zeros-next : (cell to : ℕ) → cell < to → replicate {A = ℕ} (to - cell) 0 ≡ 0 ∷ replicate (to - (cell + 1)) 0
+zeros-next cell to h =
+    let e : to - cell ≡ suc (to - (cell + 1)) = omega arith in
+    rw e
+
+pub zeros-end : (cell to : ℕ) → to ≤ cell → replicate {A = ℕ} (to - cell) 0 ≡ []
+zeros-end cell to h =
+    let e : to - cell ≡ 0 = omega arith in
+    rw e
+
+-- a run of stores leaves the cells before it and behind it alone, and its own cells hold the values
+pub take-sets : (vs m : List ℕ) (i n : ℕ) → n ≤ i → take n (sets m i vs) ≡ take n m
+take-sets [] m i n h = refl
+take-sets (v ∷ vs) m i n h = take-sets vs (set m i v) (suc i) n (omega arith) ∙ take-set-le n m i v h
+
+pub drop-sets : (vs m : List ℕ) (i n : ℕ) → i + length vs ≤ n → drop n (sets m i vs) ≡ drop n m
+drop-sets [] m i n h = refl
+drop-sets (v ∷ vs) m i n h = drop-sets vs (set m i v) (suc i) n (omega arith) ∙ drop-set-lt n m i v (omega arith)
+
+pub slice-before : (vs m : List ℕ) (i f n : ℕ) → n ≤ i → slice f n (sets m i vs) ≡ slice f n m
+slice-before vs m i f n h = ap (λ (l : List ℕ). drop f l) (take-sets vs m i n h)
+
+pub slice-from : (m : List ℕ) (f n : ℕ) → f ≤ length m → slice f (f + n) m ≡ take n (drop f m)
+slice-from m f n h = rw (take-add f n m) (drop-at (take f m) (take n (drop f m)) f (length-take-le f m h))
+
+pub slice-sets : (vs m : List ℕ) (i : ℕ) → i + length vs ≤ length m → slice i (i + length vs) (sets m i vs) ≡ vs
+slice-sets vs m i h =
+    let e : length (take i m ++ vs) ≡ i + length vs = simp (length-append, length-take-le i m (omega arith)) in
+    rw (sets-eq vs m i h, take-at (take i m ++ vs) (drop (i + length vs) m) (i + length vs) e)
+    (drop-at (take i m) vs i (length-take-le i m (omega arith)))
+
+-- a test in front of another, as tables are tested: both hold
+and-true : (b : Bool) {x : Bool} → if b x false ≡ true → (b ≡ true) × (x ≡ true)
+and-true true e = (refl, e)
+and-true false e = let z : _≡_ {A = ℕ} 0 1 = cc in absurd (omega arith)
+
+-- tables that pass the test are within their ranges
+pub sound-range : (t : Tables) (m : List ℕ) → soundOf (t, m) ≡ true → InRange t × (32768 ≤ length m)
+unfolding soundOf
+sound-range t m e =
+    let a = and-true (leb 32768 (length m)) e in
+    let b = and-true (leb (t .tokens) 4096) (a .1) in
+    let c = and-true (leb (t .count) (t .tokens)) (b .1) in
+    let d = and-true (leb (t .first) (t .end)) (c .1) in
+    let f = and-true (leb (t .end) 4096) (d .1) in
+    (record {
+      tokens = leb-true (t .tokens) 4096 (b .0);
+      count = leb-true (t .count) (t .tokens) (c .0);
+      queue = leb-true (t .first) (t .end) (d .0);
+      end = leb-true (t .end) 4096 (f .0);
+      held = leb-true (t .held) 4096 (f .1) },
+    leb-true 32768 (length m) (a .0))
+
+-- where all the other numbers are within their ranges, the last decides
+pub sound-last : (t : Tables) (m : List ℕ) → 32768 ≤ length m → t .tokens ≤ 4096 → t .count ≤ t .tokens → t .first ≤ t .end → t .end ≤ 4096 → leb (t .held) 4096 ≡ soundOf (t, m)
+unfolding soundOf
+sound-last t m a b c d e =
+    rw (le-leb 32768 (length m) a, le-leb (t .tokens) 4096 b, le-leb (t .count) (t .tokens) c, le-leb (t .first) (t .end) d, le-leb (t .end) 4096 e)

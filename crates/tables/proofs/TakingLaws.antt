@@ -1,0 +1,100 @@
+-- The definitions of specs/Taking, case by case, as the code meets them.
+use mathlib.Core.Path.{_≡_, refl, sym, _∙_}
+use mathlib.Core.Bool.{Bool, true, false}
+use mathlib.Core.List.{List}
+use Prim.Native.Nat.{ℕ, zero, suc, _+_, _-_, _<_, _≤_}
+use native.Mathlib.Omega.{arith}
+use borrow.Author.Tests.{lt-ltb, le-ltb, le-leb, lt-leb}
+use lib.Dec.{ltb}
+use lib.ListN.{getD, take}
+use lib.Seq.{sets}
+use Rattle.rules.specs.Lists.{if}
+use Rattle.rules.specs.Sources.{Taken as Outcome, Spoiled, Nothing, Took}
+use Rattle.tables.specs.declared.Tables.{Tables}
+use Rattle.tables.specs.declared.Taken.{Taken}
+use Rattle.tables.specs.declared.Test.{Test}
+use Rattle.tables.specs.declared.Count.{Count}
+use Rattle.tables.specs.Facts.{freeOf, byTest, readyAt}
+use Rattle.tables.specs.State.{State, span, marks}
+use Rattle.rules.specs.Lists.{range}
+use Rattle.tables.specs.Taking.{firstFree, findOf, deferredUpto, withCount, takeUpto, takeReady, takeOf, takenOf, takenMemory}
+use Rattle.tables.proofs.StateLaws.{span-nil, span-cons}
+
+-- the search for a free token, with the tokens from i on left
+module _ {whole : Count} (free : ℕ → Test) (i n : ℕ) (left : whole ≡ firstFree free n (span i n)) where
+  pub find-end : n ≤ i → Count.Known n ≡ whole
+  unfolding firstFree
+  find-end h = sym (rw (span-nil i n h) at left)
+
+  pub find-step : {r v : Test} → i < n → r ≡ free i → r ≡ v → whole ≡ byTest v Count.Unknown (Count.Known i) (firstFree free n (span (i + 1) n))
+  unfolding firstFree
+  find-step h e v-is = rw (span-cons i n h, ← e, v-is) at left
+
+-- what is found lies between Count and N
+first-within : (free : ℕ → Test) (n k : ℕ) {i u : ℕ} → n ≡ i + k → firstFree free n (range i k) ≡ Count.Known u → (i ≤ u) × (u ≤ n)
+unfolding firstFree range
+first-within free n zero {i} {u} e h = let u-is : n ≡ u = cc in omega arith
+first-within free n (suc k) {i} {u} e h = go (free i) (first-within free n k {i = suc i} {u = u} (omega arith)) h
+  where
+    go : (x : Test) → (firstFree free n (range (suc i) k) ≡ Count.Known u → (suc i ≤ u) × (u ≤ n))
+      → byTest x Count.Unknown (Count.Known i) (firstFree free n (range (suc i) k)) ≡ Count.Known u → (i ≤ u) × (u ≤ n)
+    go Test.Unsound later h = let z : _≡_ {A = ℕ} 0 1 = cc in omega arith
+    go Test.Yes later h = let u-is : i ≡ u = cc in omega arith
+    go Test.No later h = let w = later h in omega (arith, w .0, w .1)
+
+pub found-within : (f : List ℕ) (tokens count : ℕ) {r : Count} {u : ℕ} → count ≤ tokens → r ≡ findOf f tokens count → r ≡ Count.Known u → (count ≤ u) × (u ≤ tokens)
+unfolding findOf
+found-within f tokens count l e h = first-within (freeOf f count) tokens (tokens - count) (omega arith) (sym e ∙ h)
+
+-- what a code's answer and memory are to be, for an outcome
+abbrev pub Gives : List ℕ → Outcome State → Taken → List ℕ → Type 0
+Gives m o r m′ = (r ≡ takenOf o) × (m′ ≡ takenMemory m o)
+
+module _ (t : Tables) (m : List ℕ) where
+  -- taking the token `upto`: the table is full, there is a token, or none
+  module _ (upto : ℕ) where
+    pub upto-full : 4096 < t .held + (upto - t .count) → Gives m (takeUpto t m (Count.Known upto)) Taken.Spoiled m
+    unfolding takeUpto takenOf takenMemory
+    upto-full h = rw (lt-leb (t .held + (upto - t .count)) 4096 h) (refl, refl)
+
+    module _ {m′ : List ℕ} (room : t .held + (upto - t .count) ≤ 4096)
+      (deferred : m′ ≡ marks (sets m (24576 + t .held) (span (t .count) upto)) 1 (span (t .count) upto)) where
+      pub upto-took : upto < t .tokens → Gives m (takeUpto t m (Count.Known upto)) (Taken.Took upto (withCount t upto (upto + 1))) m′
+      unfolding takeUpto takenOf takenMemory deferredUpto
+      upto-took h = rw (le-leb (t .held + (upto - t .count)) 4096 room, lt-ltb upto (t .tokens) h) (refl, deferred)
+
+      pub upto-none : t .tokens ≤ upto → Gives m (takeUpto t m (Count.Known upto)) (Taken.Nothing (withCount t upto upto)) m′
+      unfolding takeUpto takenOf takenMemory deferredUpto
+      upto-none h = rw (le-leb (t .held + (upto - t .count)) 4096 room, le-ltb upto (t .tokens) h) (refl, deferred)
+
+  -- taking the oldest ready token
+  module _ {token : ℕ} (token-is : token ≡ getD m (readyAt + t .first) 0) where
+    pub ready-bad : t .tokens ≤ token → Taken.Spoiled ≡ takenOf (takeReady t m (getD m (readyAt + t .first) 0))
+    unfolding takeReady takenOf
+    ready-bad h = rw (← token-is, le-ltb token (t .tokens) h)
+
+    pub ready-took : token < t .tokens
+      → Taken.Took token (record { tokens = t .tokens; count = t .count; first = t .first + 1; end = t .end; held = t .held })
+        ≡ takenOf (takeReady t m (getD m (readyAt + t .first) 0))
+    unfolding takeReady takenOf
+    ready-took h = rw (← token-is, lt-ltb token (t .tokens) h)
+
+  ready-memory : (b : Bool) (token : ℕ) (u : Tables) → m ≡ takenMemory m (if b (Took token (u, m)) Spoiled)
+  unfolding takenMemory
+  ready-memory true token u = refl
+  ready-memory false token u = refl
+
+  -- taking, by the test of the queue and what is found
+  module _ {r : Taken} where
+    pub take-first : t .first < t .end → r ≡ takenOf (takeReady t m (getD m (readyAt + t .first) 0)) → Gives m (takeOf t m) r m
+    unfolding takeOf takeReady
+    take-first h g = rw (lt-ltb (t .first) (t .end) h) (g, ready-memory (ltb (getD m (readyAt + t .first) 0) (t .tokens)) _ _)
+
+    pub take-new : {m′ : List ℕ} {x y : Count} → t .end ≤ t .first → x ≡ findOf (take 24576 m) (t .tokens) (t .count) → x ≡ y
+      → Gives m (takeUpto t m y) r m′ → Gives m (takeOf t m) r m′
+    unfolding takeOf
+    take-new h e y-is g = rw (le-ltb (t .first) (t .end) h, ← e, y-is) g
+
+  pub upto-bad : Gives m (takeUpto t m Count.Unknown) Taken.Spoiled m
+  unfolding takeUpto takenOf takenMemory
+  upto-bad = (refl, refl)

@@ -1,0 +1,80 @@
+-- What the memory says of each token: its record, its standing, and what follows from them.
+use mathlib.Core.Bool.{Bool, true, false, not}
+use mathlib.Core.List.{List, [], _∷_}
+use Prim.Native.Nat.{ℕ, _+_, _-_}
+use lib.Dec.{leb, ltb, eqb}
+use lib.ListN.{getD, take, drop}
+use Rattle.rules.specs.Lists.{if, any}
+use Rattle.tables.specs.declared.Numbers.{Numbers}
+use Rattle.tables.specs.declared.Question.{Question}
+use Rattle.tables.specs.declared.Test.{Test}
+
+-- where the parts of the memory begin
+abbrev pub positionsAt : ℕ
+positionsAt = 16384
+
+abbrev pub standingAt : ℕ
+standingAt = 20480
+
+abbrev pub deferredAt : ℕ
+deferredAt = 24576
+
+abbrev pub readyAt : ℕ
+readyAt = 28672
+
+-- the part that holds the facts of the tokens: records, positions and standings
+abbrev pub factsOf : List ℕ → List ℕ
+factsOf m = take deferredAt m
+
+-- a number's standing; 0 past the facts' end, for a number that no token can have
+unfoldable pub standingOf : List ℕ → ℕ → ℕ
+standingOf f t = getD f (standingAt + t) 0
+
+-- the number part of the record at a place, which is 1 + the record's position, or 0 for no record
+unfoldable pub numbersAt : List ℕ → ℕ → Numbers
+numbersAt f place =
+    let count : ℕ = getD f place 0 in
+    if (eqb place 0) (Numbers.Part 0 0)
+    (if (leb (place + 1 + count) positionsAt) (if (leb 1 count) (if (leb count 16)
+    (Numbers.Part (place + 1) (place + 1 + count)) Numbers.Bad) Numbers.Bad) Numbers.Bad)
+
+-- the number part of a token's record
+unfoldable pub numbersOf : List ℕ → ℕ → Numbers
+numbersOf f t = numbersAt f (getD f (positionsAt + t) 0)
+
+-- a number is due for a token newly taken at this Count: it is deferred, or neither the token nor below Count
+unfoldable pub dueOf : List ℕ → ℕ → ℕ → ℕ → Bool
+dueOf f count t n = if (eqb (standingOf f n) 1) true (if (ltb n count) false (not (eqb n t)))
+
+-- a number other than this token, which has not finished pipe 0
+unfoldable pub leftOf : List ℕ → ℕ → ℕ → Bool
+leftOf f d n = if (eqb (standingOf f n) 3) false (not (eqb n d))
+
+unfoldable pub holdsOf : List ℕ → Question → ℕ → Bool
+holdsOf f (Question.Due count t) n = dueOf f count t n
+holdsOf f (Question.Left d) n = leftOf f d n
+holdsOf f (Question.Same d) n = eqb n d
+
+unfoldable pub anyOf : List ℕ → Question → List ℕ → Bool
+anyOf f q ns = any (holdsOf f q) ns
+
+-- by an answer: one thing where the record is bad, one for yes, one for no
+abbrev pub byTest : {A : Type 0} → Test → A → A → A → A
+byTest Test.Unsound a b c = a
+byTest Test.Yes a b c = b
+byTest Test.No a b c = c
+
+-- a test of a token's numbers, unless its record is bad
+unfoldable pub ofNumbers : (List ℕ → Test) → List ℕ → Numbers → Test
+ofNumbers test f Numbers.Bad = Test.Unsound
+ofNumbers test f (Numbers.Part a b) = test (take (b - a) (drop a f))
+
+-- a new token is free if none of its numbers is due
+unfoldable pub freeOf : List ℕ → ℕ → ℕ → Test
+freeOf f count t = ofNumbers (λ ns. if (anyOf f (Question.Due count t) ns) Test.No Test.Yes) f (numbersOf f t)
+
+-- a deferred token wakes if it has this number and all others have finished pipe 0
+unfoldable pub wakesOf : List ℕ → ℕ → ℕ → ℕ → Test
+wakesOf f tokens d t =
+    if (leb tokens t) Test.Unsound
+    (ofNumbers (λ ns. if (anyOf f (Question.Left d) ns) Test.No (if (anyOf f (Question.Same d) ns) Test.Yes Test.No)) f (numbersOf f t))

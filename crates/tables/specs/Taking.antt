@@ -1,0 +1,76 @@
+-- Taking a token from the tables in memory.
+use mathlib.Core.List.{List, [], _∷_}
+use Prim.Native.Nat.{ℕ, _+_, _-_}
+use lib.Dec.{leb, ltb}
+use lib.ListN.{getD}
+use lib.Seq.{sets}
+use Rattle.rules.specs.Lists.{if}
+use Rattle.rules.specs.Sources.{Taken as Outcome, Spoiled, Nothing, Took}
+use Rattle.tables.specs.declared.Tables.{Tables}
+use Rattle.tables.specs.declared.Taken.{Taken}
+use Rattle.tables.specs.declared.Offer.{Offer}
+use Rattle.tables.specs.declared.Test.{Test}
+use Rattle.tables.specs.declared.Count.{Count}
+use Rattle.tables.specs.Facts.{deferredAt, readyAt, factsOf, byTest, freeOf}
+use Rattle.tables.specs.State.{State, span, marks}
+
+-- the first of some tokens that is free, or `end` where none is
+unfoldable pub firstFree : (ℕ → Test) → ℕ → List ℕ → Count
+firstFree free end [] = Count.Known end
+firstFree free end (t ∷ ts) =
+    byTest (free t) Count.Unknown (Count.Known t) (firstFree free end ts)
+
+-- the first free token from Count on, or N where none is
+unfoldable pub findOf : List ℕ → ℕ → ℕ → Count
+findOf f tokens count = firstFree (freeOf f count) tokens (span count tokens)
+
+-- the memory after the tokens from Count up to this one were deferred
+unfoldable pub deferredUpto : Tables → ℕ → List ℕ → List ℕ
+deferredUpto t upto m = marks (sets m (deferredAt + t .held) (span (t .count) upto)) 1 (span (t .count) upto)
+
+-- the tables after it, at a new Count
+abbrev pub withCount : Tables → ℕ → ℕ → Tables
+withCount t upto count =
+    record { tokens = t .tokens; count = count; first = t .first; end = t .end; held = t .held + (upto - t .count) }
+
+-- the tokens passed over are deferred, if the table has room; then a free one is taken, unless none is left
+unfoldable pub takeUpto : Tables → List ℕ → Count → Outcome State
+takeUpto t m Count.Unknown = Spoiled
+takeUpto t m (Count.Known upto) =
+    if (leb (t .held + (upto - t .count)) 4096)
+    (if (ltb upto (t .tokens))
+      (Took upto (withCount t upto (upto + 1), deferredUpto t upto m))
+      (Nothing (withCount t upto upto, deferredUpto t upto m)))
+    Spoiled
+
+-- the oldest ready token leaves the queue; the memory stays as it is
+unfoldable pub takeReady : Tables → List ℕ → ℕ → Outcome State
+takeReady t m token =
+    if (ltb token (t .tokens))
+    (Took token (record { tokens = t .tokens; count = t .count; first = t .first + 1; end = t .end; held = t .held }, m))
+    Spoiled
+
+-- the oldest ready token, else a new one
+unfoldable pub takeOf : Tables → List ℕ → Outcome State
+takeOf t m =
+    if (ltb (t .first) (t .end))
+    (takeReady t m (getD m (readyAt + t .first) 0))
+    (takeUpto t m (findOf (factsOf m) (t .tokens) (t .count)))
+
+-- what the code returns of it
+unfoldable pub takenOf : Outcome State → Taken
+takenOf Spoiled = Taken.Spoiled
+takenOf (Nothing x) = Taken.Nothing (x .0)
+takenOf (Took t x) = Taken.Took t (x .0)
+
+-- what the memory becomes: unchanged where it is spoiled
+unfoldable pub takenMemory : List ℕ → Outcome State → List ℕ
+takenMemory m Spoiled = m
+takenMemory m (Nothing x) = x .1
+takenMemory m (Took t x) = x .1
+
+-- what the code says of it before anything is written
+unfoldable pub offeredOf : Outcome State → Offer
+offeredOf Spoiled = Offer.Spoiled
+offeredOf (Nothing x) = Offer.Nothing
+offeredOf (Took t x) = Offer.Token t
