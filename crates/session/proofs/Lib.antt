@@ -1,0 +1,2 @@
+-- Choices fed one at a time.
+pub mod Feeding

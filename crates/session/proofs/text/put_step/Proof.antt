@@ -1,0 +1,62 @@
+-- `put_step` is safe: the buffer keeps its length.
+use native.Mathlib.Omega.{arith}
+use borrow.Author.Needs.{needs}
+use Rattle.session.proofs.text.put_step.Statement.{statement}
+use Rattle.session.proofs.text.put_step.Tie as tie
+use Rattle.session.proofs.text.put_step.Reads as reads
+use Rattle.session.proofs.text.put_step.Lts as lts
+use Rattle.session.proofs.sink.Sink.put.Reads as put-reads
+use Rattle.session.proofs.text.put_number.Reads as put-number-reads
+
+cast-put-number : tie.Need-cast-put-number
+cast-put-number c = search needs
+
+put-number-requires : tie.Need-put-number-requires
+put-number-requires c κs = search needs
+
+cast-put-number-2 : tie.Need-cast-put-number-2
+cast-put-number-2 c = search needs
+
+put-number-requires-2 : tie.Need-put-number-requires-2
+put-number-requires-2 c κs = search needs
+
+cast-put-number-3 : tie.Need-cast-put-number-3
+cast-put-number-3 c = search needs
+
+put-number-requires-3 : tie.Need-put-number-requires-3
+put-number-requires-3 c κs = search needs
+
+cast-put-number-4 : tie.Need-cast-put-number-4
+cast-put-number-4 c = search needs
+
+put-number-requires-4 : tie.Need-put-number-requires-4
+put-number-requires-4 c κs = search needs
+
+slice-aggregate-put : tie.Need-slice-aggregate-put
+slice-aggregate-put c = search needs
+
+put-requires : tie.Need-put-requires
+put-requires c κs = search needs
+
+same-length : tie.Need-same-length
+same-length c = omega (arith, c .before .before .put .kept .1 .0, c .before .before .before .before .before .before .before .put-number4 .kept .1 .0, c .before .before .before .before .before .before .before .before .before .before .before .before .put-number3 .kept .1 .0, c .before .before .before .before .before .before .before .before .before .before .before .before .before .before .before .before .before .put-number2 .kept .1 .0, c .before .before .before .before .before .before .before .before .before .before .before .before .before .before .before .before .before .before .before .before .before .before .put-number .kept .1 .0)
+
+returns : tie.Need-returns
+returns c = search needs
+
+pub put-step-spec : {M : Type 1} → statement M
+put-step-spec =
+    tie.close
+    (tie.spec
+    cast-put-number
+    put-number-requires
+    cast-put-number-2
+    put-number-requires-2
+    cast-put-number-3
+    put-number-requires-3
+    cast-put-number-4
+    put-number-requires-4
+    slice-aggregate-put
+    put-requires
+    same-length
+    returns)

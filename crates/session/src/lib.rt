@@ -1,0 +1,84 @@
+// A run of document 01's program on byte slices: what it does between reading its input and writing its output.
+// Nothing here trusts its caller, and what it prints is compared with the second implementation's.
+ghost use mathlib.Core.Path.{_≡_};
+ghost use Rattle.rules.specs.Choices.{choose as chosenBy, follow};
+ghost use Rattle.tables.specs.Calls.{memorySource};
+ghost use Rattle.engine.specs.Machines.{machineOf};
+ghost use Rattle.engine.specs.Opened.{openOf};
+ghost use Rattle.session.specs.Begun.{isAccepted};
+
+mod sink;
+mod text;
+
+pub use sink::Sink;
+pub use text::put_number;
+pub use text::put_refusal;
+
+use engine::Opening;
+use engine::State;
+use rules::Line;
+
+// A run that goes on, and where its output goes.
+pub struct Session {
+    pub state: State,
+    pub sink: Sink,
+}
+
+// What opening gives: whether the run goes on, and the run; a refused one has a state of zeros.
+pub struct Begun {
+    pub accepted: bool,
+    pub session: Session,
+}
+
+// Opens a plan for so many workers; a refused opening prints its number only.
+pub fn begin(file: &[u8], workers: u8, mem: &mut [u16], sink: Sink, out: &mut [u8]) -> Begun
+    ensures answer { λ r. ⌜ r .accepted ≡ isAccepted (openOf (now (file .entry)) workers (now (mem .entry)) .0 .answer) ⌝ }
+    ensures state { λ r. ⌜ r .session .state ≡ openOf (now (file .entry)) workers (now (mem .entry)) .0 .state ⌝ }
+    ensures memory { λ _. ⌜ now (mem .exit) ≡ openOf (now (file .entry)) workers (now (mem .entry)) .1 ⌝ }
+{
+    let opened = engine::open(file, workers as u16, mem);
+    let answer = opened.answer;
+    let state = opened.state;
+    match answer {
+        Opening::Refused(why) => {
+            let said = text::put_refusal(sink, out, why);
+            Begun { accepted: false, session: Session { state: state, sink: said } }
+        }
+        Opening::Accepted => Begun { accepted: true, session: Session { state: state, sink: sink } },
+    }
+}
+
+// One choice: the line that the byte names moves on, and the answer is printed.
+pub fn choose(session: Session, choice: u8, mem: &mut [u16], out: &mut [u8]) -> Session
+    ensures { λ r. ⌜ machineOf (r .state) (now (mem .exit)) ≡ chosenBy memorySource (machineOf (session .state) (now (mem .entry))) choice .machine ⌝ }
+{
+    let state = session.state;
+    let sink = session.sink;
+    let chosen = engine::choose(state, mem, Line(choice as u16));
+    let after = chosen.state;
+    let answer = chosen.answer;
+    Session { state: after, sink: text::put_answer(sink, out, answer) }
+}
+
+// Each byte is a choice; a refused one prints its number, and the run goes on.
+pub fn feed(session: Session, choices: &[u8], mem: &mut [u16], out: &mut [u8]) -> Session
+    ensures { λ r. ⌜ machineOf (r .state) (now (mem .exit)) ≡ follow memorySource (machineOf (session .state) (now (mem .entry))) (now (choices .entry)) ⌝ }
+{
+    let mut now = session;
+    let mut i: usize = 0;
+    while i < choices.len() {
+        now = choose(now, choices[i], mem, out);
+        i += 1;
+    }
+    now
+}
+
+// The last line: whether the run has ended.
+pub fn close(session: Session, out: &mut [u8]) -> Sink {
+    let state = session.state;
+    let sink = session.sink;
+    if engine::ended(state) {
+        return sink.put(out, b"E\n");
+    }
+    sink.put(out, b"O\n")
+}

@@ -1,0 +1,64 @@
+-- `each` is safe and ends: its turns are counted down.
+use mathlib.Core.Path.{_≡_}
+use Prim.Native.Nat.{_<_, _^_}
+use lib.ListN.{length}
+use borrow.Author.Needs.{needs}
+use Rattle.vectors.proofs.runs.each.Statement.{statement}
+use Rattle.vectors.proofs.runs.each.Tie as tie
+use Rattle.vectors.proofs.runs.each.Reads as reads
+use Rattle.vectors.proofs.runs.each.Lts as lts
+use Rattle.session.proofs.sink.Sink.written.Reads as written-reads
+use Rattle.vectors.proofs.runs.next.Reads as next-reads
+
+abbrev Inv-loop : tie.InvT-loop
+Inv-loop fd out₀ sink₀ turns₀ out sink turns = (length out ≡ length out₀) × (turns < 2 ^ 64)
+
+abbrev μ-loop : tie.MeasureT-loop
+μ-loop fd out₀ sink₀ turns₀ out sink turns = turns
+
+written-requires : tie.Need-written-requires Inv-loop μ-loop
+written-requires c κs = search needs
+
+loop-holds : tie.Need-loop-holds Inv-loop μ-loop
+loop-holds c = search needs
+
+next-requires : tie.Need-next-requires Inv-loop μ-loop
+next-requires c κs = search needs
+
+sub-turns : tie.Need-sub-turns Inv-loop μ-loop
+sub-turns c = search needs
+
+loop-less : tie.Need-loop-less Inv-loop μ-loop
+loop-less c = search needs
+
+loop-again : tie.Need-loop-again Inv-loop μ-loop
+loop-again c = search needs
+
+loop-less-2 : tie.Need-loop-less-2 Inv-loop μ-loop
+loop-less-2 c = search needs
+
+loop-again-2 : tie.Need-loop-again-2 Inv-loop μ-loop
+loop-again-2 c = search needs
+
+same-length : tie.Need-same-length Inv-loop μ-loop
+same-length c = search needs
+
+returns : tie.Need-returns Inv-loop μ-loop
+returns c = search needs
+
+pub each-spec : {M : Type 1} → statement M
+each-spec =
+    tie.close
+    (tie.spec
+    Inv-loop
+    μ-loop
+    written-requires
+    loop-holds
+    next-requires
+    sub-turns
+    loop-less
+    loop-again
+    loop-less-2
+    loop-again-2
+    same-length
+    returns)

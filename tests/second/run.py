@@ -1,0 +1,128 @@
+"""A run: opening, choices with their join counters, events and the end."""
+
+from plan_file import Refused
+from tables import Tables
+
+MOST_WORKERS = 32
+# The counters lie in one list of 32 x 16, whatever the plan uses of it.
+COUNTERS = 512
+PIPES_EACH = 16
+
+STARTED = "S"
+FINISHED = "F"
+STOPPED = "X"
+REFUSED = "R"
+
+
+class Run:
+    def __init__(self, plan, workers):
+        """Opening; raises Refused(8) for a bad worker limit."""
+        if not 1 <= workers <= MOST_WORKERS:
+            raise Refused(8)
+        self.workers = workers
+        self.lines = plan.lines
+        self.pipes = len(plan.pipes)
+        self.serial = list(plan.pipes)
+        self.full = [2 if serial else 1 for serial in plan.pipes]
+        self.tables = Tables(plan)
+
+        self.counters = [0] * COUNTERS
+        for line in range(self.lines):
+            for pipe in range(self.pipes):
+                if line == 0 and pipe == 0:
+                    value = 0
+                elif line == 0 or pipe == 0:
+                    value = 1
+                else:
+                    value = self.full[pipe]
+                self.counters[line * PIPES_EACH + pipe] = value
+
+        # For each line: the pipe where it waits or runs, and what it carries.
+        self.at = [0] * self.lines
+        self.running = [False] * self.lines
+        self.carries = [None] * self.lines
+        self.running_lines = 0
+        self.stopped = False
+        self.ended = False
+
+    def refusal(self, line):
+        """10 to 13 if a choice of this line would be refused now, else 0."""
+        if line >= self.lines:
+            return 10
+        if self.ended:
+            return 11
+        if self.running[line]:
+            return 0
+        if self.counters[line * PIPES_EACH + self.at[line]] > 0:
+            return 12
+        if self.running_lines >= self.workers:
+            return 13
+        return 0
+
+    def choose(self, line):
+        """One choice: its event, or (REFUSED, number) with nothing changed."""
+        number = self.refusal(line)
+        if number:
+            return (REFUSED, number)
+        event = self.finish(line) if self.running[line] else self.start(line)
+        if self.stopped:
+            self.ended = self.has_ended()
+        return event
+
+    def start(self, line):
+        pipe = self.at[line]
+        # Filled at start, so that falls which come before the next start count.
+        self.counters[line * PIPES_EACH + pipe] = self.full[pipe]
+        if pipe == 0:
+            taken = self.tables.take()
+            if taken is None:
+                self.stopped = True
+                return (STOPPED, line)
+            self.carries[line] = taken
+        self.running[line] = True
+        self.running_lines += 1
+        token, place = self.carries[line]
+        return (STARTED, line, pipe, token, place)
+
+    def finish(self, line):
+        pipe = self.at[line]
+        token, place = self.carries[line]
+        if pipe == 0:
+            self.tables.finish(token)
+        if self.serial[pipe]:
+            self.fall((line + 1) % self.lines, pipe)
+        next_pipe = (pipe + 1) % self.pipes
+        self.fall(line, next_pipe)
+        self.at[line] = next_pipe
+        self.running[line] = False
+        self.running_lines -= 1
+        # A line back at pipe 0 carries nothing any more.
+        if next_pipe == 0:
+            self.carries[line] = None
+        return (FINISHED, line, pipe, token, place)
+
+    def fall(self, line, pipe):
+        at = line * PIPES_EACH + pipe
+        # No run takes a counter below 0; we would rather fail than go on.
+        assert self.counters[at] > 0
+        self.counters[at] -= 1
+
+    def has_ended(self):
+        """Marked stopped, no line runs and no waiting line has counter 0."""
+        if not self.stopped or self.running_lines:
+            return False
+        return all(
+            self.counters[line * PIPES_EACH + self.at[line]] > 0 for line in range(self.lines)
+        )
+
+    def state(self):
+        """All that the run holds but W, to compare the ends of runs."""
+        return (
+            tuple(self.counters),
+            tuple(self.at),
+            tuple(self.running),
+            tuple(self.carries),
+            self.stopped,
+            self.ended,
+            self.tables.state(),
+        )
