@@ -6,12 +6,12 @@ use Rattle.rules.specs.Ranges.{sound, numbersSound, isIdle, isLoaded, sl
 use Rattle.rules.specs.Choices.{opened, openedCounter, tabled, answers, follow, choose, move, start, startFirst, startLater}
 use Rattle.rules.specs.Choices.{finish, finishFirst, finishWith, settle, fall, ended, movable, runningBelow}
 use Rattle.rules.specs.PlainSheet.{numbersOf, written, leaves, sheet, closed, staying, rows, onLine}
-use Rattle.rules.specs.WholeRuns.{oneWorker, accepted}
+use Rattle.rules.specs.WholeRuns.{oneWorker}
 use Rattle.rules.specs.KnownOrders.{cases, outcome, told, endedAfter}
 use Rattle.rules.proofs.lists.EveryLaws.{every-agree}
 
 pub cases-hold : Every (λ c. outcome c ≡ c .known) cases
 unfolding outcome told endedAfter numbersOf sheet closed staying rows onLine written leaves take takeFrom takeNew release isDue keep has empty
-    oneWorker accepted opened openedCounter tabled table answers follow choose move start startFirst startLater finish finishFirst finishWith settle
+    oneWorker opened openedCounter tabled table answers follow choose move start startFirst startLater finish finishFirst finishWith settle
     fall ended movable runningBelow sound numbersSound within isIdle isLoaded slotSound mostAt counterSound serialSound every
 cases-hold = every-agree outcome (λ c. c .known) cases refl

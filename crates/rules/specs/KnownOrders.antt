@@ -9,7 +9,7 @@ use Rattle.rules.specs.TakingTokens as tables
 use Rattle.rules.specs.RunState.{Pipeline, Machine}
 use Rattle.rules.specs.Choices.{Answer, Started, Finished, Stopped, answers, follow, opened, ended}
 use Rattle.rules.specs.PlainSheet.{Deferral, numbersOf, sheet, staying, plainSource, rows, onLine}
-use Rattle.rules.specs.WholeRuns.{oneWorker, accepted}
+use Rattle.rules.specs.WholeRuns.{oneWorker}
 
 -- what the paper tells of a plan: the order, what stays deferred, what line 0 runs, how many choices end the one-worker
 -- run, and its first events, as far as they are given
@@ -31,7 +31,7 @@ pub record Case : Type 0 where
 abbrev pub pipelineOf : Case → Pipeline
 pipelineOf c = record { pipes = c .pipes; lines = c .lines; tokens = c .tokens; serial = replicate (c .pipes) true }
 
--- the one-worker run of a case, whose sheet is this order: its answers, and where it leads
+-- the one-worker run of a case, whose sheet is this order
 module _ (c : Case) (order : List ℕ) where
   abbrev begun : Machine Tables
   begun = opened (pipelineOf c) 1 tables.opened
@@ -39,41 +39,52 @@ module _ (c : Case) (order : List ℕ) where
   abbrev choicesOf : List ℕ
   choicesOf = oneWorker (pipelineOf c) 0 (length order)
 
+  -- its answers
   unfoldable pub told : List Answer
   told = answers (plainSource (c .tokens) (numbersOf (c .records))) begun choicesOf
 
-  -- how many of its choices were accepted, if it has ended
+  -- the number of its choices, if they end it
   unfoldable pub endedAfter : ℕ
-  endedAfter = must (ended (follow (plainSource (c .tokens) (numbersOf (c .records))) begun choicesOf)) 0 (accepted told)
+  endedAfter = must (ended (follow (plainSource (c .tokens) (numbersOf (c .records))) begun choicesOf)) 0 (length choicesOf)
 
 -- what the rules give
 unfoldable pub outcome : Case → Outcome
 outcome c =
     let order : List ℕ = sheet (c .tokens) (numbersOf (c .records)) in
+    let answered : List Answer = told c order in
     record {
       order = order;
       stays = staying (c .tokens) (numbersOf (c .records));
       line0 = onLine 0 (rows (c .lines) 0 order);
       choices = endedAfter c order;
-      events = take (length (c .known .events)) (told c order);
+      events = take (length (c .known .events)) answered;
     }
 
 -- "Where a row is silent, it has one serial pipe, one line and one worker": line 0 runs all
 abbrev pub case : ℕ → List Deferral → List ℕ → List ℕ → ℕ → Case
 case tokens records order stays choices = record {
-    pipes = 1; lines = 1; tokens = tokens; records = records;
-    known = record { order = order; stays = stays; line0 = order; choices = choices; events = [] } }
+  pipes = 1;
+  lines = 1;
+  tokens = tokens;
+  records = records;
+  known = record { order = order; stays = stays; line0 = order; choices = choices; events = [] };
+}
 
 -- case a, whole
 abbrev pub case-a : Case
 case-a = record {
-    pipes = 1; lines = 1; tokens = 1; records = [];
-    known = record {
-      order = 0 ∷ [];
-      stays = [];
-      line0 = 0 ∷ [];
-      choices = 3;
-      events = Started 0 0 0 0 ∷ Finished 0 0 0 0 ∷ Stopped 0 ∷ [] } }
+  pipes = 1;
+  lines = 1;
+  tokens = 1;
+  records = [];
+  known = record {
+    order = 0 ∷ [];
+    stays = [];
+    line0 = 0 ∷ [];
+    choices = 3;
+    events = Started 0 0 0 0 ∷ Finished 0 0 0 0 ∷ Stopped 0 ∷ [];
+  };
+}
 
 -- case b's order, whatever P and L are
 abbrev pub order-b : List ℕ
@@ -82,22 +93,37 @@ order-b = 0 ∷ 1 ∷ 2 ∷ 3 ∷ 4 ∷ 5 ∷ 6 ∷ 8 ∷ 9 ∷ 10 ∷ 11 ∷ 13
 -- case b with P pipes and L lines: line 0 runs these, and the one-worker run takes so many choices
 abbrev pub case-b : ℕ → ℕ → List ℕ → ℕ → Case
 case-b pipes lines line0 choices = record {
-    pipes = pipes; lines = lines; tokens = 17;
-    records = (7, 16 ∷ []) ∷ (12, 6 ∷ 7 ∷ 16 ∷ []) ∷ [];
-    known = record { order = order-b; stays = []; line0 = line0; choices = choices; events = [] } }
+  pipes = pipes;
+  lines = lines;
+  tokens = 17;
+  records = (7, 16 ∷ []) ∷ (12, 6 ∷ 7 ∷ 16 ∷ []) ∷ [];
+  known = record { order = order-b; stays = []; line0 = line0; choices = choices; events = [] };
+}
 
 -- a row: N, the records, the order, what stays deferred, and the number of choices, which is 2·M·P + 1
 abbrev pub cases : List Case
 cases =
-    {- a -} case-a ∷
-    {- b -} case-b 1 1 order-b 35 ∷
-    {- b with L = 3 -} case-b 1 3 (0 ∷ 3 ∷ 6 ∷ 10 ∷ 14 ∷ 7 ∷ []) 35 ∷
-    {- b with P = 3 -} case-b 3 1 order-b 103 ∷
-    {- c -} case 0 [] [] [] 1 ∷
-    {- d -} case 2 ((0, 1 ∷ []) ∷ []) (1 ∷ 0 ∷ []) [] 5 ∷
-    {- e -} case 2 ((0, 1 ∷ []) ∷ (1, 0 ∷ []) ∷ []) [] (0 ∷ 1 ∷ []) 1 ∷
-    {- f -} case 3 ((0, 3 ∷ []) ∷ []) (1 ∷ 2 ∷ []) (0 ∷ []) 5 ∷
-    {- g -} case 3 ((0, 2 ∷ []) ∷ (1, 2 ∷ []) ∷ []) (2 ∷ 0 ∷ 1 ∷ []) [] 7 ∷
-    {- h -} case 3 ((0, 1 ∷ 2 ∷ []) ∷ (1, 2 ∷ []) ∷ []) (2 ∷ 1 ∷ 0 ∷ []) [] 7 ∷
-    {- i -} case 4 ((0, 3 ∷ []) ∷ (1, 2 ∷ []) ∷ []) (2 ∷ 1 ∷ 3 ∷ 0 ∷ []) [] 9 ∷
-    {- j -} case 4 ((1, 0 ∷ []) ∷ []) (0 ∷ 1 ∷ 2 ∷ 3 ∷ []) [] 9 ∷ []
+    {- a -}
+    case-a ∷
+    {- b -}
+    case-b 1 1 order-b 35 ∷
+    {- b with L = 3 -}
+    case-b 1 3 (0 ∷ 3 ∷ 6 ∷ 10 ∷ 14 ∷ 7 ∷ []) 35 ∷
+    {- b with P = 3 -}
+    case-b 3 1 order-b 103 ∷
+    {- c -}
+    case 0 [] [] [] 1 ∷
+    {- d -}
+    case 2 ((0, 1 ∷ []) ∷ []) (1 ∷ 0 ∷ []) [] 5 ∷
+    {- e -}
+    case 2 ((0, 1 ∷ []) ∷ (1, 0 ∷ []) ∷ []) [] (0 ∷ 1 ∷ []) 1 ∷
+    {- f -}
+    case 3 ((0, 3 ∷ []) ∷ []) (1 ∷ 2 ∷ []) (0 ∷ []) 5 ∷
+    {- g -}
+    case 3 ((0, 2 ∷ []) ∷ (1, 2 ∷ []) ∷ []) (2 ∷ 0 ∷ 1 ∷ []) [] 7 ∷
+    {- h -}
+    case 3 ((0, 1 ∷ 2 ∷ []) ∷ (1, 2 ∷ []) ∷ []) (2 ∷ 1 ∷ 0 ∷ []) [] 7 ∷
+    {- i -}
+    case 4 ((0, 3 ∷ []) ∷ (1, 2 ∷ []) ∷ []) (2 ∷ 1 ∷ 3 ∷ 0 ∷ []) [] 9 ∷
+    {- j -}
+    case 4 ((1, 0 ∷ []) ∷ []) (0 ∷ 1 ∷ 2 ∷ 3 ∷ []) [] 9 ∷ []

@@ -70,7 +70,8 @@ release n t =
     record {
       count = t .count;
       ready = t .ready ++ tokensOf (keep (λ h. empty (h .due)) held);
-      deferred = keep (λ h. not (empty (h .due))) held }
+      deferred = keep (λ h. not (empty (h .due))) held;
+    }
 
 -- "it starts with Count 0 and the rest empty"
 abbrev pub opened : Tables

@@ -14,10 +14,16 @@ fn feed_some(session: Session, mem: &mut [u16], out: &mut [u8]) -> Turn {
     let mut input = io::large_buffer();
     let got = io::read_full(STDIN_FILENO, &mut input);
     if got == 0 {
-        return Turn { more: false, session: session };
+        return Turn {
+            more: false,
+            session: session,
+        };
     }
     let fed = session::feed(session, &input[..got], mem, out);
-    Turn { more: true, session: fed }
+    Turn {
+        more: true,
+        session: fed,
+    }
 }
 
 // A proved loop has to end, and nothing says that the input does: so the loop counts its turns down, from a number that no

@@ -10,13 +10,12 @@ ghost use Rattle.session.specs.Begun.{isAccepted};
 mod sink;
 mod text;
 
-pub use sink::Sink;
-pub use text::put_number;
-pub use text::put_refusal;
-
 use engine::Opening;
 use engine::State;
 use rules::Line;
+pub use sink::Sink;
+pub use text::put_number;
+pub use text::put_refusal;
 
 // A run that goes on, and where its output goes.
 pub struct Session {
@@ -42,9 +41,21 @@ pub fn begin(file: &[u8], workers: u8, mem: &mut [u16], sink: Sink, out: &mut [u
     match answer {
         Opening::Refused(why) => {
             let said = text::put_refusal(sink, out, why);
-            Begun { accepted: false, session: Session { state: state, sink: said } }
+            Begun {
+                accepted: false,
+                session: Session {
+                    state: state,
+                    sink: said,
+                },
+            }
         }
-        Opening::Accepted => Begun { accepted: true, session: Session { state: state, sink: sink } },
+        Opening::Accepted => Begun {
+            accepted: true,
+            session: Session {
+                state: state,
+                sink: sink,
+            },
+        },
     }
 }
 
@@ -57,7 +68,10 @@ pub fn choose(session: Session, choice: u8, mem: &mut [u16], out: &mut [u8]) -> 
     let chosen = engine::choose(state, mem, Line(choice as u16));
     let after = chosen.state;
     let answer = chosen.answer;
-    Session { state: after, sink: text::put_answer(sink, out, answer) }
+    Session {
+        state: after,
+        sink: text::put_answer(sink, out, answer),
+    }
 }
 
 // Each byte is a choice; a refused one prints its number, and the run goes on.

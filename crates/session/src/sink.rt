@@ -24,12 +24,22 @@ fn add(sum: u64, byte: u8) -> u64 {
 impl Sink {
     // Output to standard output.
     pub fn written() -> Self {
-        Self { at: 0, digests: false, lines: 0, sum: 1 }
+        Self {
+            at: 0,
+            digests: false,
+            lines: 0,
+            sum: 1,
+        }
     }
 
     // Output to a digest.
     pub fn digested() -> Self {
-        Self { at: 0, digests: true, lines: 0, sum: 1 }
+        Self {
+            at: 0,
+            digests: true,
+            lines: 0,
+            sum: 1,
+        }
     }
 
     // The digest with these bytes.
@@ -47,7 +57,12 @@ impl Sink {
                 i += 1;
             }
         }
-        Self { at: 0, digests: true, lines: lines, sum: sum }
+        Self {
+            at: 0,
+            digests: true,
+            lines: lines,
+            sum: sum,
+        }
     }
 
     // Hands on what waits in the buffer.
@@ -60,7 +75,12 @@ impl Sink {
             return self.digest(&out[..at]);
         }
         io::write_all(STDOUT_FILENO, &out[..at]);
-        Self { at: 0, digests: false, lines: 0, sum: 1 }
+        Self {
+            at: 0,
+            digests: false,
+            lines: 0,
+            sum: 1,
+        }
     }
 
     // Puts bytes into the buffer, which is handed on first where they would not fit.
@@ -96,6 +116,11 @@ impl Sink {
             out[from + i] = text[i];
             i += 1;
         }
-        Self { at: from + count, digests: self.digests, lines: self.lines, sum: self.sum }
+        Self {
+            at: from + count,
+            digests: self.digests,
+            lines: self.lines,
+            sum: self.sum,
+        }
     }
 }

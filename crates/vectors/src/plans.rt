@@ -36,11 +36,17 @@ fn next(fd: i32, sink: Sink, out: &mut [u8]) -> Turn {
     let mut file = io::large_buffer();
     let size = stored::two_bytes(fd);
     if !size.there {
-        return Turn { more: false, sink: sink };
+        return Turn {
+            more: false,
+            sink: sink,
+        };
     }
     let got = stored::bytes(fd, size.value, &mut file);
     let said = put_reading(sink, out, &file[..got]);
-    Turn { more: true, sink: said }
+    Turn {
+        more: true,
+        sink: said,
+    }
 }
 
 // All stored files. (The count of turns is there for the proof that the loop ends.)

@@ -97,7 +97,11 @@ fn made_run(fd: i32, file: &[u8], sink: Sink, out: &mut [u8]) -> Sink {
     let count = stored::four_bytes(fd);
     let seed = stored::four_bytes(fd);
     let modulus = stored::two_bytes(fd);
-    let made = Made { count: count.value, seed: seed.value, modulus: modulus.value };
+    let made = Made {
+        count: count.value,
+        seed: seed.value,
+        modulus: modulus.value,
+    };
     let done = digest(file, (workers.value % 256) as u8, made);
     put_digest(sink, out, done.lines, done.sum)
 }
@@ -107,16 +111,25 @@ fn next(fd: i32, sink: Sink, out: &mut [u8]) -> Turn {
     let mut file = io::large_buffer();
     let size = stored::two_bytes(fd);
     if !size.there {
-        return Turn { more: false, sink: sink };
+        return Turn {
+            more: false,
+            sink: sink,
+        };
     }
     let got = stored::bytes(fd, size.value, &mut file);
     let kind = stored::byte(fd);
     if kind.value == 0 {
         let said = stored_run(fd, &file[..got], sink, out);
-        return Turn { more: true, sink: said };
+        return Turn {
+            more: true,
+            sink: said,
+        };
     }
     let said = made_run(fd, &file[..got], sink, out);
-    Turn { more: true, sink: said }
+    Turn {
+        more: true,
+        sink: said,
+    }
 }
 
 // All stored runs. (The count of turns is there for the proof that the loop ends.)

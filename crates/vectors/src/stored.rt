@@ -16,23 +16,35 @@ pub fn byte(fd: i32) -> Stored {
     let mut one = [0u8; 1];
     let got = io::read_full(fd, &mut one);
     if got == 0 {
-        return Stored { there: false, value: 0 };
+        return Stored {
+            there: false,
+            value: 0,
+        };
     }
-    Stored { there: true, value: wide(one[0]) }
+    Stored {
+        there: true,
+        value: wide(one[0]),
+    }
 }
 
 // The next two-byte number, low byte first.
 pub fn two_bytes(fd: i32) -> Stored {
     let low = byte(fd);
     let high = byte(fd);
-    Stored { there: high.there, value: low.value % 256 + (high.value % 256) * 256 }
+    Stored {
+        there: high.there,
+        value: low.value % 256 + (high.value % 256) * 256,
+    }
 }
 
 // The next four-byte number, low byte first.
 pub fn four_bytes(fd: i32) -> Stored {
     let low = two_bytes(fd);
     let high = two_bytes(fd);
-    Stored { there: high.there, value: low.value % 65536 + (high.value % 65536) * 65536 }
+    Stored {
+        there: high.there,
+        value: low.value % 65536 + (high.value % 65536) * 65536,
+    }
 }
 
 // The next bytes, so many, to the front of a buffer; returns how many there were and fitted.

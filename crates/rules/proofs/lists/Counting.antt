@@ -13,8 +13,8 @@ use Rattle.rules.proofs.lists.Tests.{by-test}
 -- a test for equality as arithmetic
 pub same-number : (m n : ℕ) → if (eqb m n) 1 0 ≡ 1 - (m - n + (n - m))
 same-number m n = by-test (eqb m n)
-  (λ e. rw e (omega (arith, eqb-true m n e)))
-  (λ e. let other : m ≢ n = eqb-false m n e in rw e (omega arith))
+    (λ e. rw e (omega (arith, eqb-true m n e)))
+    (λ e. let other : m ≢ n = eqb-false m n e in rw e (omega arith))
 
 pub times-append : (n : ℕ) (k l : List ℕ) → times n (k ++ l) ≡ times n k + times n l
 unfolding times
@@ -26,15 +26,15 @@ pub has-true : (l : List ℕ) (n : ℕ) → has l n ≡ true → 1 ≤ times n l
 unfolding has times
 has-true [] n h = absurd (true≢false (sym h))
 has-true (m ∷ l) n h = by-test (eqb m n)
-  (λ e. rw e (omega arith))
-  (λ e. rw e (omega (arith, has-true l n (rw e at h))))
+    (λ e. rw e (omega arith))
+    (λ e. rw e (omega (arith, has-true l n (rw e at h))))
 
 pub has-false : (l : List ℕ) (n : ℕ) → has l n ≡ false → times n l ≡ 0
 unfolding has times
 has-false [] n h = refl
 has-false (m ∷ l) n h = by-test (eqb m n)
-  (λ e. absurd (true≢false (rw e at h)))
-  (λ e. rw e (omega (arith, has-false l n (rw e at h))))
+    (λ e. absurd (true≢false (rw e at h)))
+    (λ e. rw e (omega (arith, has-false l n (rw e at h))))
 
 pub times-some : (l : List ℕ) (n : ℕ) → 1 ≤ times n l → has l n ≡ true
 times-some l n h = by-test (has l n) (λ e. e) (λ e. absurd (omega (arith, has-false l n e)))
@@ -86,28 +86,28 @@ module _ (p : ℕ → Bool) (n : ℕ) where
   unfolding keep times
   times-keep [] h = refl
   times-keep (m ∷ l) h = by-test (p m)
-    (λ e. rw e (omega (arith, times-keep l h)))
-    (λ e. rw (e, differ p m n e h) (omega (arith, times-keep l h)))
+      (λ e. rw e (omega (arith, times-keep l h)))
+      (λ e. rw (e, differ p m n e h) (omega (arith, times-keep l h)))
 
   -- one that fails it is not kept
   pub times-dropped : (l : List ℕ) → p n ≡ false → times n (keep p l) ≡ 0
   unfolding keep times
   times-dropped [] h = refl
   times-dropped (m ∷ l) h = by-test (p m)
-    (λ e. rw (e, differ p m n e h) (omega (arith, times-dropped l h)))
-    (λ e. rw e (times-dropped l h))
+      (λ e. rw (e, differ p m n e h) (omega (arith, times-dropped l h)))
+      (λ e. rw e (times-dropped l h))
 
 -- a kept number is one that passes the test
 pub has-keep : (p : ℕ → Bool) (l : List ℕ) (n : ℕ) → has (keep p l) n ≡ if (p n) (has l n) false
 has-keep p l n = by-test (p n)
-  (λ e. rw e (has-same n (keep p l) l (times-keep p n l e)))
-  (λ e. rw e (times-none (keep p l) n (times-dropped p n l e)))
+    (λ e. rw e (has-same n (keep p l) l (times-keep p n l e)))
+    (λ e. rw e (times-none (keep p l) n (times-dropped p n l e)))
 
 -- what passes a test and what fails it make up the list
 pub times-split : {A : Type 0} (f : A → ℕ) (p : A → Bool) (n : ℕ) (l : List A) →
-  times n (map f (keep p l)) + times n (map f (keep (λ a. not (p a)) l)) ≡ times n (map f l)
+    times n (map f (keep p l)) + times n (map f (keep (λ a. not (p a)) l)) ≡ times n (map f l)
 unfolding keep times
 times-split f p n [] = refl
 times-split f p n (a ∷ l) = by-test (p a)
-  (λ e. rw e (omega (arith, times-split f p n l)))
-  (λ e. rw e (omega (arith, times-split f p n l)))
+    (λ e. rw e (omega (arith, times-split f p n l)))
+    (λ e. rw e (omega (arith, times-split f p n l)))

@@ -10,7 +10,7 @@ use Rattle.rules.proofs.lists.Tests.{by-test}
 
 -- a property of each image
 pub every-map : {A B : Type 0} (P : A → Type 0) (Q : B → Type 0) (f : A → B) → ((a : A) → P a → Q (f a)) →
-  (l : List A) → Every P l → Every Q (map f l)
+    (l : List A) → Every P l → Every Q (map f l)
 every-map P Q f g [] h = tt
 every-map P Q f g (a ∷ l) h = (g a (h .0), every-map P Q f g l (h .1))
 
@@ -33,13 +33,13 @@ module _ {A : Type 0} (P : A → Type 0) where
   unfolding keep
   every-keep p [] h = tt
   every-keep p (a ∷ l) h = by-test (p a)
-    (λ e. rw e ((h .0, e), every-keep p l (h .1)))
-    (λ e. rw e (every-keep p l (h .1)))
+      (λ e. rw e ((h .0, e), every-keep p l (h .1)))
+      (λ e. rw e (every-keep p l (h .1)))
 
   -- the element behind one of the elements' numbers
   pub every-find : (f : A → ℕ) (n : ℕ) (l : List A) → Every P l → has (map f l) n ≡ true → (a : A) × P a × (f a ≡ n)
   unfolding has
   every-find f n [] h m = absurd (true≢false (sym m))
   every-find f n (a ∷ l) h m = by-test (eqb (f a) n)
-    (λ e. (a, h .0, eqb-true (f a) n e))
-    (λ e. every-find f n l (h .1) (rw e at m))
+      (λ e. (a, h .0, eqb-true (f a) n e))
+      (λ e. every-find f n l (h .1) (rw e at m))

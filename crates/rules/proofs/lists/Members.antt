@@ -43,7 +43,7 @@ keep-keep p q [] = refl
 keep-keep p q (a ∷ l) = go (q a) (keep-keep p q l)
   where
     go : (x : Bool) → keep p (keep q l) ≡ keep (λ a. if (q a) (p a) false) l
-      → keep p (if x (a ∷ keep q l) (keep q l)) ≡ if (if x (p a) false) (a ∷ keep (λ a. if (q a) (p a) false) l) (keep (λ a. if (q a) (p a) false) l)
+        → keep p (if x (a ∷ keep q l) (keep q l)) ≡ if (if x (p a) false) (a ∷ keep (λ a. if (q a) (p a) false) l) (keep (λ a. if (q a) (p a) false) l)
     go true e = ap (λ r. if (p a) (a ∷ r) r) e
     go false e = e
 
@@ -111,7 +111,7 @@ any-third p q r h [] e f = absurd (true≢false (sym e))
 any-third p q r h (a ∷ l) e f = go (p a) (q a) (r a) (h a) (any-third p q r h l) e f
   where
     go : (x y z : Bool) → (x ≡ true → y ≡ false → z ≡ true) → (any p l ≡ true → any q l ≡ false → any r l ≡ true)
-      → if x true (any p l) ≡ true → if y true (any q l) ≡ false → if z true (any r l) ≡ true
+        → if x true (any p l) ≡ true → if y true (any q l) ≡ false → if z true (any r l) ≡ true
     go x true z h later e f = absurd (true≢false f)
     go x false true h later e f = refl
     go true false false h later e f = absurd (true≢false (sym (h refl refl)))
@@ -129,6 +129,6 @@ keep-all p [] = refl
 keep-all p (a ∷ l) = go (p a) (keep-all p l)
   where
     go : (b : Bool) → length (keep p l) + length (keep (λ a. not (p a)) l) ≡ length l
-      → length (if b (a ∷ keep p l) (keep p l)) + length (if (not b) (a ∷ keep (λ a. not (p a)) l) (keep (λ a. not (p a)) l)) ≡ suc (length l)
+        → length (if b (a ∷ keep p l) (keep p l)) + length (if (not b) (a ∷ keep (λ a. not (p a)) l) (keep (λ a. not (p a)) l)) ≡ suc (length l)
     go true e = omega arith
     go false e = omega arith

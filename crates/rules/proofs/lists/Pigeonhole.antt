@@ -22,14 +22,14 @@ length-without : (n : ℕ) (l : List ℕ) → length (without n l) + times n l �
 unfolding keep times
 length-without n [] = refl
 length-without n (m ∷ l) = by-test (eqb m n)
-  (λ e. rw e (omega (arith, length-without n l)))
-  (λ e. rw e (omega (arith, length-without n l)))
+    (λ e. rw e (omega (arith, length-without n l)))
+    (λ e. rw e (omega (arith, length-without n l)))
 
 -- and has no number more often
 times-without : (n k : ℕ) (l : List ℕ) → times k (without n l) ≤ times k l
 times-without n k l = by-test (eqb k n)
-  (λ e. omega (arith, times-dropped (λ m. not (eqb m n)) k l (ap not e)))
-  (λ e. omega (arith, times-keep (λ m. not (eqb m n)) k l (ap not e)))
+    (λ e. omega (arith, times-dropped (λ m. not (eqb m n)) k l (ap not e)))
+    (λ e. omega (arith, times-keep (λ m. not (eqb m n)) k l (ap not e)))
 
 -- the pigeonhole principle: among more than N numbers below N, one comes twice
 pub pigeonhole : (N : ℕ) (l : List ℕ) → ((n : ℕ) → N ≤ n → times n l ≡ 0) → N < length l → (n : ℕ) × (2 ≤ times n l)
@@ -42,5 +42,5 @@ pigeonhole (suc N) l small long = by-cases (decLe 2 (times N l)) (λ twice. (N, 
   where
     smaller : (n : ℕ) → N ≤ n → times n (without N l) ≡ 0
     smaller n h = by-cases (ℕ-discrete n N)
-      (λ e. times-dropped (λ m. not (eqb m N)) n l (ap not (eq-eqb n N e)))
-      (λ other. omega (arith, times-without N n l, small n (omega arith)))
+        (λ e. times-dropped (λ m. not (eqb m N)) n l (ap not (eq-eqb n N e)))
+        (λ other. omega (arith, times-without N n l, small n (omega arith)))

@@ -16,8 +16,8 @@ pub place-of : (l : List ℕ) (n : ℕ) → has l n ≡ true → (j : ℕ) × (j
 unfolding has
 place-of [] n h = absurd (true≢false (sym h))
 place-of (m ∷ l) n h = by-test (eqb m n)
-  (λ e. (0, omega arith, eqb-true m n e))
-  (λ e. let (j, small, at) = place-of l n (rw e at h) in (suc j, omega arith, at))
+    (λ e. (0, omega arith, eqb-true m n e))
+    (λ e. let (j, small, at) = place-of l n (rw e at h) in (suc j, omega arith, at))
 
 -- what stands at a place comes in the list
 pub at-place : (l : List ℕ) (k : ℕ) → k < length l → 1 ≤ times (getD l k 0) l

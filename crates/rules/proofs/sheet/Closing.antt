@@ -36,25 +36,26 @@ module _ (tokens : ℕ) (numbers : ℕ → List ℕ) where
   -- no more tokens are ordered than there are: each is below N, and comes once
   pub placed-few : {placed done : List ℕ} {t : Tables} → Sound tokens numbers placed done t → length placed ≤ tokens
   placed-few {placed} s = by-cases (decLe (length placed) tokens) (λ few. few) (λ many.
-    let (n, twice) = pigeonhole tokens placed (λ n h. omega (arith, s .counted n, s .within)) (omega arith) in
-    absurd (omega (arith, s .counted n)))
+      let (n, twice) = pigeonhole tokens placed (λ n h. omega (arith, s .counted n, s .within)) (omega arith) in
+      absurd (omega (arith, s .counted n)))
 
   -- with each step one more token is ordered, so that N + 1 steps are enough
   pub closes-from : ((n : ℕ) → has (numbers n) n ≡ false) → (steps : ℕ) (done : List ℕ) (t : Tables) →
-    Sound tokens numbers done done t → steps + length done ≡ suc tokens →
-    Closes done t (written tokens numbers steps t) (leaves tokens numbers steps t)
+      Sound tokens numbers done done t → steps + length done ≡ suc tokens →
+      Closes done t (written tokens numbers steps t) (leaves tokens numbers steps t)
   unfolding written leaves
   closes-from others zero done t s fuel = absurd (omega (arith, placed-few s))
   closes-from others (suc steps) done t s fuel = by-taken (take tokens numbers t)
-    (λ z e.
+      (λ z e.
       let h : Taking tokens numbers done (none z) = rw e at (take-sound tokens numbers others t s) in
       rw (e, written, leaves) (record {
         writes = close refl (ap offered e) refl;
         ordered = tt;
         sound = rw append-nil (h .0);
         none-new = h .1;
-        none-ready = h .2 }))
-    (λ n u e.
+        none-ready = h .2;
+      }))
+      (λ n u e.
       let h : Taking tokens numbers done (took n u) = rw e at (take-sound tokens numbers others t s) in
       let c = closes-from others steps (done ++ (n ∷ [])) (release n u) (release-sound tokens numbers n u (h .0)) (omega (arith, length-append done (n ∷ []))) in
       rw (e, written, leaves) (record {
@@ -62,4 +63,5 @@ module _ (tokens : ℕ) (numbers : ℕ → List ℕ) where
         ordered = (h .1, c .ordered);
         sound = rw append-assoc at (c .sound);
         none-new = c .none-new;
-        none-ready = c .none-ready }))
+        none-ready = c .none-ready;
+      }))

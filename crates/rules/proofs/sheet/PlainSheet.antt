@@ -19,7 +19,7 @@ use Rattle.rules.proofs.sheet.Closing.{InOrder, Closes, closes-from, pl
 
 -- in an ordered list, what the k-th token lists is among the tokens before it
 order-at : (numbers : ℕ → List ℕ) (done l : List ℕ) → InOrder numbers done l → (k : ℕ) → k < length l →
-  AllIn numbers (done ++ take k l) (getD l k 0)
+    AllIn numbers (done ++ take k l) (getD l k 0)
 order-at numbers done [] o k h = absurd (omega arith)
 order-at numbers done (n ∷ l) o zero h = rw append-nil (o .0)
 order-at numbers done (n ∷ l) o (suc k) h = rw append-assoc at (order-at numbers (done ++ (n ∷ [])) l (o .1) k (omega arith))
@@ -68,21 +68,21 @@ module _ (tokens : ℕ) (numbers : ℕ → List ℕ) (others : (n : ℕ) → has
   -- a token below N stays deferred exactly if it is not on the sheet
   pub stays-or-written : (n : ℕ) → n < tokens → has (staying tokens numbers) n ≡ not (has (sheet tokens numbers) n)
   stays-or-written n h = by-test (has (sheet tokens numbers) n)
-    (λ e. rw e (omega (members, once n)))
-    (λ e. rw e (omega (members, once n)))
+      (λ e. rw e (omega (members, once n)))
+      (λ e. rw e (omega (members, once n)))
 
   -- each number that the k-th token lists is the j-th token for some j below k
   pub sheet-order : (k : ℕ) → k < length (sheet tokens numbers) → (m : ℕ) → has (numbers (getD (sheet tokens numbers) k 0)) m ≡ true →
-    (j : ℕ) × (j < k) × (getD (sheet tokens numbers) j 0 ≡ m)
+      (j : ℕ) × (j < k) × (getD (sheet tokens numbers) j 0 ≡ m)
   sheet-order k h m listed =
-    let (j, small, at) = place-of (take k (sheet tokens numbers)) m (order-at numbers [] (sheet tokens numbers) (closes .ordered) k h m listed) in
-    let before : j < k = omega (arith, length-take k (sheet tokens numbers)) in
-    (j, before, sym (getD-take k (sheet tokens numbers) j 0 before) ∙ at)
+      let (j, small, at) = place-of (take k (sheet tokens numbers)) m (order-at numbers [] (sheet tokens numbers) (closes .ordered) k h m listed) in
+      let before : j < k = omega (arith, length-take k (sheet tokens numbers)) in
+      (j, before, sym (getD-take k (sheet tokens numbers) j 0 before) ∙ at)
 
   -- a token that stays deferred lists a number that is not on the sheet
   pub waits-for : (n : ℕ) → has (staying tokens numbers) n ≡ true →
-    (m : ℕ) × (has (numbers n) m ≡ true) × (has (sheet tokens numbers) m ≡ false)
+      (m : ℕ) × (has (numbers n) m ≡ true) × (has (sheet tokens numbers) m ≡ false)
   unfolding staying
   waits-for n h =
-    let (a, w, e) = every-find (Entry numbers (sheet tokens numbers)) (λ h. h .token) n (closed tokens numbers .deferred) (closes .sound .waiting) h in
-    rw e at (some-unfinished numbers (sheet tokens numbers) a (w .0) (w .1))
+      let (a, w, e) = every-find (Entry numbers (sheet tokens numbers)) (λ h. h .token) n (closed tokens numbers .deferred) (closes .sound .waiting) h in
+      rw e at (some-unfinished numbers (sheet tokens numbers) a (w .0) (w .1))

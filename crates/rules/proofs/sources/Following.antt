@@ -63,10 +63,10 @@ module _ {X Y : Type 0} {f : X → Y} {S : Source X} {T : Source Y} (follows : F
     finish-with-map : (s : Slot) (x : X) → finishWith T (mapMachine f m) l s (f x) ≡ mapChosen f (finishWith S m l s x)
     unfolding finishWith
     finish-with-map s x = by-test (isSerial m (s .pipe .0))
-      (λ e. rw e (by-test (eqb (getD (m .counters) (16 * next (m .lines) l + s .pipe .0) 0) 0)
+        (λ e. rw e (by-test (eqb (getD (m .counters) (16 * next (m .lines) l + s .pipe .0) 0) 0)
         (λ e. rw e)
         (λ e. rw e (settle-map s (fall (m .counters) (16 * next (m .lines) l + s .pipe .0)) x))))
-      (λ e. rw e (settle-map s (m .counters) x))
+        (λ e. rw e (settle-map s (m .counters) x))
 
     finish-first-map : (s : Slot) (o : Released X) → finishFirst T (mapMachine f m) l s (mapReleased f o) ≡ mapChosen f (finishFirst S m l s o)
     unfolding finishFirst
@@ -77,23 +77,23 @@ module _ {X Y : Type 0} {f : X → Y} {S : Source X} {T : Source Y} (follows : F
     start-map : (start S m l .answer ≡ Refused 14 → ⊥) → start T (mapMachine f m) l ≡ mapChosen f (start S m l)
     unfolding start startFirst startLater
     start-map n = by-test (eqb (slotOf m l .pipe .0) 0)
-      (λ e. rw (e, follows .takes (m .source) (λ q. n (rw (e, q)))) (start-first-map (S .take (m .source))))
-      (λ e. rw e)
+        (λ e. rw (e, follows .takes (m .source) (λ q. n (rw (e, q)))) (start-first-map (S .take (m .source))))
+        (λ e. rw e)
 
     finish-map : (finish S m l .answer ≡ Refused 14 → ⊥) → finish T (mapMachine f m) l ≡ mapChosen f (finish S m l)
     unfolding finish finishFirst
     finish-map n = by-test (eqb (slotOf m l .pipe .0) 0)
-      (λ e. rw (e, follows .releases (slotOf m l .token .0) (m .source) (λ q. n (rw (e, q)))) (finish-first-map (slotOf m l) (S .release (slotOf m l .token .0) (m .source))))
-      (λ e. rw e (finish-with-map (slotOf m l) (m .source)))
+        (λ e. rw (e, follows .releases (slotOf m l .token .0) (m .source) (λ q. n (rw (e, q)))) (finish-first-map (slotOf m l) (S .release (slotOf m l .token .0) (m .source))))
+        (λ e. rw e (finish-with-map (slotOf m l) (m .source)))
 
     move-map : (move S m l .answer ≡ Refused 14 → ⊥) → move T (mapMachine f m) l ≡ mapChosen f (move S m l)
     unfolding move
     move-map n = by-test (slotOf m l .running)
-      (λ e. rw e (finish-map (rw e at n)))
-      (λ e. rw e (by-test (eqb (counterOf m l (slotOf m l .pipe .0)) 0)
+        (λ e. rw e (finish-map (rw e at n)))
+        (λ e. rw e (by-test (eqb (counterOf m l (slotOf m l .pipe .0)) 0)
         (λ c. rw c (by-test (ltb (runningBelow (m .slots) (m .lines)) (m .workers))
-          (λ w. rw w (start-map (rw (e, c, w) at n)))
-          (λ w. rw w)))
+        (λ w. rw w (start-map (rw (e, c, w) at n)))
+        (λ w. rw w)))
         (λ c. rw c)))
 
     sound-map : sound T (mapMachine f m) ≡ sound S m
@@ -104,12 +104,12 @@ module _ {X Y : Type 0} {f : X → Y} {S : Source X} {T : Source Y} (follows : F
     pub choose-map : (choose S m l .answer ≡ Refused 14 → ⊥) → choose T (mapMachine f m) l ≡ mapChosen f (choose S m l)
     unfolding choose
     choose-map n = rw (sound-map, ended-map f m) (by-test (sound S m)
-      (λ s. rw s (by-test (ltb l (m .lines))
+        (λ s. rw s (by-test (ltb l (m .lines))
         (λ i. rw i (by-test (ended m)
-          (λ e. rw e)
-          (λ e. rw e (move-map (rw (s, i, e) at n)))))
+        (λ e. rw e)
+        (λ e. rw e (move-map (rw (s, i, e) at n)))))
         (λ i. rw i)))
-      (λ s. rw s))
+        (λ s. rw s))
 
   -- a list of choices: the answers are the same, and the machine that is left is that of the other run, by the map
   pub answers-map : (m : Machine X) (ls : List ℕ) → Every (λ a. a ≡ Refused 14 → ⊥) (answers S m ls) →

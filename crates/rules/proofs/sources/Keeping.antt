@@ -27,10 +27,10 @@ module _ {X : Type 0} {P : X → Type 0} {S : Source X} (keeps : Keeps P S) wher
     finish-with-keeps : (s : Slot) (x : X) → P x → P (finishWith S m l s x .machine .source)
     unfolding finishWith
     finish-with-keeps s x h = by-test (isSerial m (s .pipe .0))
-      (λ e. rw e (by-test (eqb (getD (m .counters) (16 * next (m .lines) l + s .pipe .0) 0) 0)
+        (λ e. rw e (by-test (eqb (getD (m .counters) (16 * next (m .lines) l + s .pipe .0) 0) 0)
         (λ z. rw z held)
         (λ z. rw z (settle-keeps s (fall (m .counters) (16 * next (m .lines) l + s .pipe .0)) x h))))
-      (λ e. rw e (settle-keeps s (m .counters) x h))
+        (λ e. rw e (settle-keeps s (m .counters) x h))
 
     finish-first-keeps : (s : Slot) (o : Released X) → OnReleased P o → P (finishFirst S m l s o .machine .source)
     unfolding finishFirst
@@ -40,30 +40,30 @@ module _ {X : Type 0} {P : X → Type 0} {S : Source X} (keeps : Keeps P S) wher
     start-keeps : P (start S m l .machine .source)
     unfolding start startLater
     start-keeps = by-test (eqb (slotOf m l .pipe .0) 0)
-      (λ e. rw e (start-first-keeps (S .take (m .source)) (keeps .takes (m .source) held)))
-      (λ e. rw e held)
+        (λ e. rw e (start-first-keeps (S .take (m .source)) (keeps .takes (m .source) held)))
+        (λ e. rw e held)
 
     finish-keeps : P (finish S m l .machine .source)
     unfolding finish
     finish-keeps = by-test (eqb (slotOf m l .pipe .0) 0)
-      (λ e. rw e (finish-first-keeps (slotOf m l) (S .release (slotOf m l .token .0) (m .source)) (keeps .releases (slotOf m l .token .0) (m .source) held)))
-      (λ e. rw e (finish-with-keeps (slotOf m l) (m .source) held))
+        (λ e. rw e (finish-first-keeps (slotOf m l) (S .release (slotOf m l .token .0) (m .source)) (keeps .releases (slotOf m l .token .0) (m .source) held)))
+        (λ e. rw e (finish-with-keeps (slotOf m l) (m .source) held))
 
     move-keeps : P (move S m l .machine .source)
     unfolding move
     move-keeps = by-test (slotOf m l .running)
-      (λ e. rw e finish-keeps)
-      (λ e. rw e (by-test (eqb (counterOf m l (slotOf m l .pipe .0)) 0)
+        (λ e. rw e finish-keeps)
+        (λ e. rw e (by-test (eqb (counterOf m l (slotOf m l .pipe .0)) 0)
         (λ c. rw c (by-test (ltb (runningBelow (m .slots) (m .lines)) (m .workers)) (λ w. rw w start-keeps) (λ w. rw w held)))
         (λ c. rw c held)))
 
     pub choose-keeps : P (choose S m l .machine .source)
     unfolding choose
     choose-keeps = by-test (sound S m)
-      (λ s. rw s (by-test (ltb l (m .lines))
+        (λ s. rw s (by-test (ltb l (m .lines))
         (λ i. rw i (by-test (ended m) (λ e. rw e held) (λ e. rw e move-keeps)))
         (λ i. rw i held)))
-      (λ s. rw s held)
+        (λ s. rw s held)
 
   -- a list of choices
   pub follow-keeps : (m : Machine X) → P (m .source) → (ls : List ℕ) → P (follow S m ls .source)

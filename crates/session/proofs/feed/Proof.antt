@@ -41,11 +41,14 @@ loop-again : tie.Need-loop-again Inv-loop μ-loop
 loop-again c =
     let at-choose = c .before .before .before .before in
     let at-loop = c .before .before .before .before .before .before .before .before .before in
-    let choices = at-loop .before .before .before .before .args .choices .now in
-    (omega arith, omega (arith, at-choose .choose .kept .1 .1 .0), omega (arith, at-choose .choose .kept .1 .1 .1 .0),
+    let choices = at-loop .before .before .before .before .args .choices .now in (
+      omega arith,
+      omega (arith, at-choose .choose .kept .1 .1 .0),
+      omega (arith, at-choose .choose .kept .1 .1 .1 .0),
       at-loop .loop .inv .3 ∙
-      follow-turn memorySource (machineOf (at-loop .loop .now .state) (at-loop .loop .mem)) choices (at-loop .loop .i) _ (omega arith)
-      (at-choose .choose .ensures))
+          follow-turn memorySource (machineOf (at-loop .loop .now .state) (at-loop .loop .mem)) choices (at-loop .loop .i) _ (omega arith)
+          (at-choose .choose .ensures),
+    )
 
 same-length : tie.Need-same-length Inv-loop μ-loop
 same-length c = search needs
@@ -58,7 +61,7 @@ returns c =
     let at-loop = c .before in
     let choices = at-loop .before .before .before .before .args .choices .now in
     sym (at-loop .loop .inv .3 ∙
-      follow-end memorySource (machineOf (at-loop .loop .now .state) (at-loop .loop .mem)) choices (at-loop .loop .i) (omega arith) (omega arith))
+    follow-end memorySource (machineOf (at-loop .loop .now .state) (at-loop .loop .mem)) choices (at-loop .loop .i) (omega arith) (omega arith))
 
 pub feed-spec : {M : Type 1} → statement M
 feed-spec =
