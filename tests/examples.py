@@ -1,0 +1,115 @@
+"""The examples: plans and worker orders with what the program prints on them.
+
+--write makes them anew with the second implementation, --check fails if a stored one differs,
+--run PROGRAM runs the program on each and compares.
+"""
+
+import os
+import subprocess
+import sys
+import tempfile
+
+HERE = os.path.dirname(os.path.abspath(__file__))
+ROOT = os.path.dirname(HERE)
+FOLDER = os.path.join(ROOT, "examples")
+sys.path.insert(0, os.path.join(HERE, "second"))
+
+from plan_file import Plan, encode, read  # noqa: E402
+from program import output  # noqa: E402
+from run import Run  # noqa: E402
+from sheet import plain_sheet  # noqa: E402
+
+SERIAL, PARALLEL = True, False
+
+PLANS = {
+    # Document 001's figure: 7 waits for 16; 12 waits for 6, 7 and 16.
+    "figure": Plan([SERIAL] * 3, 3, 17, [(7, [16]), (12, [6, 7, 16])]),
+    # Case h: 0 waits for 1 and 2, 1 waits for 2, so the order is 2, 1, 0.
+    "backwards": Plan([SERIAL, SERIAL], 2, 3, [(0, [1, 2]), (1, [2])]),
+    # 1 and 2 wait for each other, and 4 for a token that never enters.
+    "stuck": Plan([SERIAL, PARALLEL], 2, 6, [(1, [2]), (2, [1]), (4, [9])]),
+    # A parallel second pipe lets token 1 overtake token 0.
+    "overtaking": Plan([SERIAL, PARALLEL], 2, 2, []),
+}
+
+
+def one_worker(plan):
+    """The paper's one-worker run: each place through all pipes, then the line that stops."""
+    order = plain_sheet(plan).order
+    choices = []
+    for place in range(len(order)):
+        choices += [place % plan.lines] * (2 * len(plan.pipes))
+    choices.append(len(order) % plan.lines)
+    return bytes([1] + choices)
+
+
+def all_lines(plan, workers):
+    """Workers that go round the lines and take the next that may be chosen."""
+    run = Run(plan, workers)
+    choices = []
+    line = 0
+    while not run.ended:
+        while run.refusal(line):
+            line = (line + 1) % plan.lines
+        choices.append(line)
+        run.choose(line)
+        line = (line + 1) % plan.lines
+    return bytes([workers] + choices)
+
+
+def orders():
+    """Each worker order's name, its plan's name and the program's input."""
+    for name, plan in PLANS.items():
+        yield name + ".one-worker", name, one_worker(plan)
+        yield name + ".all-lines", name, all_lines(plan, min(plan.lines, 32))
+    yield "overtaking.overtakes", "overtaking", bytes([2, 0, 0, 0, 1, 1, 1, 1])
+
+
+def files():
+    for name, plan in PLANS.items():
+        data = encode(plan)
+        read(data)
+        yield name + ".plan", data
+    for name, plan, choices in orders():
+        yield name + ".choices", choices
+        yield name + ".output", output(encode(PLANS[plan]), choices)
+
+
+def write():
+    for name, data in files():
+        with open(os.path.join(FOLDER, name), "wb") as out:
+            out.write(data)
+
+
+def check():
+    wanted = dict(files())
+    for name, data in wanted.items():
+        with open(os.path.join(FOLDER, name), "rb") as stored:
+            if stored.read() != data:
+                sys.exit("examples/%s is not what the second implementation makes" % name)
+    print("examples: %d files are as the second implementation makes them" % len(wanted))
+
+
+def run(program):
+    program = os.path.abspath(program)
+    count = 0
+    for name, plan, choices in orders():
+        with tempfile.TemporaryDirectory() as room:
+            with open(os.path.join(room, "plan.bin"), "wb") as out:
+                out.write(encode(PLANS[plan]))
+            got = subprocess.run([program], input=choices, cwd=room, stdout=subprocess.PIPE).stdout
+        if got != output(encode(PLANS[plan]), choices):
+            sys.exit("the program differs on examples/%s.choices" % name)
+        count += 1
+    print("examples: the program prints what is stored for %d worker orders" % count)
+
+
+if __name__ == "__main__":
+    if sys.argv[1:] == ["--write"]:
+        write()
+    elif sys.argv[1:] == ["--check"]:
+        check()
+    elif len(sys.argv) == 3 and sys.argv[1] == "--run":
+        run(sys.argv[2])
+    else:
+        sys.exit(__doc__)
