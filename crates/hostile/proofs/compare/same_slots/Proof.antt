@@ -1,0 +1,68 @@
+-- `same_slots` is safe and ends.
+use mathlib.Core.Path.{_≡_}
+use Prim.Native.Nat.{_≤_, _-_}
+use native.Mathlib.Omega.{arith}
+use lib.ListN.{length, length-set}
+use borrow.Author.Needs.{needs}
+use Rattle.hostile.proofs.compare.same_slots.Statement.{statement}
+use Rattle.hostile.proofs.compare.same_slots.Tie as tie
+use Rattle.hostile.proofs.compare.same_slots.Reads as reads
+use Rattle.hostile.proofs.compare.same_slots.Lts as lts
+use Rattle.hostile.proofs.compare.same_slot.Reads as same-slot-reads
+
+abbrev Inv-loop : tie.InvT-loop
+Inv-loop a b i₀ i = i ≤ 32
+
+abbrev μ-loop : tie.MeasureT-loop
+μ-loop a b i₀ i = 32 - i
+
+loop-holds : tie.Need-loop-holds Inv-loop μ-loop
+loop-holds c = search needs
+
+mul-x : tie.Need-mul-x Inv-loop μ-loop
+mul-x c = search needs
+
+array-copy-out-x : tie.Need-array-copy-out-x Inv-loop μ-loop
+array-copy-out-x c = search needs
+
+mul-y : tie.Need-mul-y Inv-loop μ-loop
+mul-y c = search needs
+
+array-copy-out-y : tie.Need-array-copy-out-y Inv-loop μ-loop
+array-copy-out-y c = search needs
+
+same-slot-requires : tie.Need-same-slot-requires Inv-loop μ-loop
+same-slot-requires c κs = search needs
+
+add-i : tie.Need-add-i Inv-loop μ-loop
+add-i c = search needs
+
+loop-less : tie.Need-loop-less Inv-loop μ-loop
+loop-less c = search needs
+
+loop-again : tie.Need-loop-again Inv-loop μ-loop
+loop-again c = search needs
+
+returns : tie.Need-returns Inv-loop μ-loop
+returns c = search needs
+
+returns-2 : tie.Need-returns-2 Inv-loop μ-loop
+returns-2 c = search needs
+
+pub same-slots-spec : {M : Type 1} → statement M
+same-slots-spec =
+    tie.close
+    (tie.spec
+    Inv-loop
+    μ-loop
+    loop-holds
+    mul-x
+    array-copy-out-x
+    mul-y
+    array-copy-out-y
+    same-slot-requires
+    add-i
+    loop-less
+    loop-again
+    returns
+    returns-2)
