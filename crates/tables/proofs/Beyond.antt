@@ -6,7 +6,7 @@ use Prim.Native.Nat.{ℕ, suc, _+_, _-_, _<_, _≤_}
 use native.Mathlib.Omega.{arith}
 use borrow.Author.Tests.{ltb-true, leb-true, leb-false}
 use lib.Dec.{leb, ltb}
-use lib.ListN.{length, getD, take, drop, set, replicate, length-append, length-set, length-replicate, List·getD-append}
+use lib.ListN.{length, take, drop, set, replicate, length-append, length-set, length-replicate, List·getD-append}
 use lib.Seq.{sets, length-sets, set-append-left, take-append-le}
 use Rattle.rules.specs.Lists.{has}
 use Rattle.rules.specs.Sources.{Taken as Outcome, Spoiled, Nothing, Took, Released, Broken, Passed}
@@ -17,7 +17,7 @@ use Rattle.tables.specs.declared.Count.{Count}
 use Rattle.tables.specs.Facts.{factsOf}
 use Rattle.tables.specs.State.{InRange, soundOf, span, marks, tableOf}
 use Rattle.rules.specs.Lists.{range}
-use Rattle.tables.specs.Taking.{findOf, deferredUpto, takeUpto, takeReady, takeOf}
+use Rattle.tables.specs.Taking.{findOf, deferredUpto, oldestOf, takeUpto, takeReady, takeOf}
 use Rattle.tables.specs.Releasing.{wokenIn, stayingIn, unsoundIn, movedTables, movedMemory, releaseOf}
 use Rattle.rules.specs.Lists.{Below}
 use Rattle.tables.specs.Matching.{beyond}
@@ -93,7 +93,9 @@ module _ (r : List ℕ) where
       (λ e.
         let some : t .first < t .end = ltb-true _ _ e in
         rw (e, List·getD-append m r 0 (28672 + t .first) (omega (arith, ok .end)))
-        (by-test (ltb (getD m (28672 + t .first) 0) (t .tokens)) (λ e. rw e) (λ e. rw e)))
+        (by-test (ltb (oldestOf t m) (t .tokens))
+          (λ low. rw (low, set-append-left m r (20480 + oldestOf t m) 0 (omega (arith, ltb-true (oldestOf t m) (t .tokens) low, ok .tokens))))
+          (λ high. rw high)))
       (λ e. rw (e, facts-beyond) (upto-beyond (findOf (factsOf m) (t .tokens) (t .count)) refl))
 
     -- a token's finish

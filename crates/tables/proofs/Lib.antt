@@ -4,6 +4,7 @@ pub mod TakingLaws
 pub mod ReleasingLaws
 pub mod Passes
 pub mod Moves
+pub mod StandingLaws
 pub mod RuleTaking
 pub mod RuleReleasing
 pub mod MemoryLaws

@@ -22,6 +22,7 @@ use Rattle.tables.specs.Matching.{Recorded, Standing, Match, nobody, onl
 use Rattle.rules.proofs.lists.Members.{keep-all, below-keep, below-mono}
 use Rattle.tables.proofs.StateLaws.{take-sets, drop-sets, drop-more, facts-length, slice-before, slice-sets}
 use Rattle.tables.proofs.MemoryLaws.{standing-set, length-marks, take-marks, drop-marks, standing-marks, recorded-same, slice-append, slice-same}
+use Rattle.tables.proofs.StandingLaws.{table-low}
 use Rattle.tables.proofs.RuleReleasing.{finished, woken-are, staying-are, none-unsound, release-standing}
 
 -- the memory after some tokens joined the ready queue, others closed up, and a token finished
@@ -115,7 +116,7 @@ module _ (tokens : ℕ) (numbers : ℕ → List ℕ) (a : rules.Tables) (t : Tab
   count-within = omega (arith, p .range .count, p .count, p .size)
 
   low-table : Below tokens (tokensOf (a .deferred))
-  low-table = below-mono (tokensOf (a .deferred)) count-within (p .standing .low)
+  low-table = below-mono (tokensOf (a .deferred)) count-within (table-low (p .standing))
 
   all-sound : unsoundIn t d m ≡ false
   all-sound =
@@ -142,7 +143,7 @@ module _ (tokens : ℕ) (numbers : ℕ → List ℕ) (a : rules.Tables) (t : Tab
   unfolding wokenOf
   woken-low =
       below-keep 4096 (λ n. isYes (wakesOf (take 24576 m) (t .tokens) d n)) (tableOf t m)
-      (rw (p .table) (below-mono (tokensOf (a .deferred)) (omega (arith, count-within, p .size, p .range .tokens)) (p .standing .low)))
+      (rw (p .table) (below-mono (tokensOf (a .deferred)) (omega (arith, count-within, p .size, p .range .tokens)) (table-low (p .standing))))
 
   room : t .end + length (wokenIn t d m) ≤ 4096
   room = omega (arith, all-moved, p .room, p .range .count, p .range .tokens)

@@ -6,9 +6,9 @@ use Prim.Native.Nat.{ℕ, suc, _+_, _-_, _<_, _≤_}
 use native.Mathlib.Omega.{arith}
 use borrow.Author.Tests.{lt-ltb, le-ltb, le-leb, eqb-true, eqb-false, ltb-true, ltb-false, leb-true}
 use lib.Dec.{leb, ltb, eqb}
-use lib.ListN.{length, getD, take, drop}
-use lib.Seq.{take-take, sets, slice, slice-cons, length-slice, length-sets}
-use Rattle.rules.specs.Lists.{if, has}
+use lib.ListN.{length, getD, take, drop, set, length-set}
+use lib.Seq.{take-take, take-set-le, drop-set-lt, sets, slice, slice-cons, length-slice, length-sets}
+use Rattle.rules.specs.Lists.{if, has, times}
 use Rattle.rules.specs.TakingTokens.{none, took, tokensOf, takeNew, takeFrom}
 use Rattle.rules.specs.TakingTokens as rules
 use Rattle.rules.specs.Sources.{Taken as Outcome, Nothing, Took}
@@ -17,42 +17,66 @@ use Rattle.tables.specs.declared.Count.{Count}
 use Rattle.tables.specs.Facts.{standingOf}
 use Rattle.tables.specs.State.{State, span, marks}
 use Rattle.rules.specs.Lists.{range}
-use Rattle.tables.specs.Taking.{findOf, deferredUpto, withCount, takeUpto, takeReady, takeOf}
+use Rattle.tables.specs.Taking.{findOf, deferredUpto, withCount, withoutFirst, takeUpto, takeReady, takeOf}
 use Rattle.rules.specs.Lists.{Below}
 use Rattle.tables.specs.Matching.{Standing, Match, nobody, only}
-use Rattle.rules.proofs.lists.Tests.{if-same, if-eta, by-test}
+use Rattle.rules.proofs.lists.Tests.{if-eta, by-test}
+use Rattle.rules.proofs.lists.Counting.{times-none}
 use Rattle.rules.proofs.lists.Members.{below-range, length-range}
 use Rattle.tables.proofs.StateLaws.{take-sets, drop-sets, drop-more, facts-length}
-use Rattle.tables.proofs.MemoryLaws.{length-marks, take-marks, drop-marks, standing-marks, recorded-same, slice-append, slice-same}
-use Rattle.tables.proofs.RuleTaking.{Passing, after, Together, new-tokens, new-standing, tokens-after, marked}
+use Rattle.tables.proofs.MemoryLaws.{standing-set, length-marks, take-marks, drop-marks, standing-marks, recorded-same, slice-append, slice-same}
+use Rattle.tables.proofs.RuleTaking.{Passing, after, Together, new-tokens, new-standing, tokens-after, marked, waiting-same}
+use Rattle.tables.proofs.StandingLaws.{ready-low}
 
 -- the memory's outcome of taking stands for the rules' one
 abbrev pub TakenMatch : ℕ → (ℕ → List ℕ) → rules.Taken → Outcome State → Type 0
 TakenMatch tokens numbers (none a) o = (x : State) × (o ≡ Nothing x) × Match tokens numbers a x nobody
 TakenMatch tokens numbers (took n a) o = (x : State) × (o ≡ Took n x) × Match tokens numbers a x (only n)
 
--- the standings after the oldest ready token left the queue
-ready-standing : (numbers : ℕ → List ℕ) (a : rules.Tables) (s : ℕ → ℕ) (n : ℕ) (rest : List ℕ) → a .ready ≡ n ∷ rest → Standing numbers a s nobody
-  → Standing numbers (record { count = a .count; ready = rest; deferred = a .deferred }) s (only n)
-unfolding has
-ready-standing numbers a s n rest e p =
-    let has-is : (j : ℕ) → has (a .ready) j ≡ if (eqb n j) true (has rest j) = λ j. rw e in
-    let low : Below (a .count) (n ∷ rest) = rw e at (p .low-ready) in
-    record {
-      waiting = p .waiting;
-      marked = p .marked;
-      fresh = p .fresh;
-      settled = λ j l x y o. p .settled j l x (rw (has-is j, o) y) refl;
-      apart = λ j y. p .apart j (rw (has-is j, y) (if-same (eqb n j) true));
-      outside = λ j o. (p .apart j (rw (has-is j, o)), (let j-is : n ≡ j = eqb-true n j o in omega (arith, low .0)));
-      low = p .low;
-      low-ready = low .1 }
+-- the standings after the oldest ready token left the queue, and its own was cleared
+module _ (numbers : ℕ → List ℕ) (a : rules.Tables) (s : ℕ → ℕ) (n : ℕ) (rest : List ℕ) (e : a .ready ≡ n ∷ rest) (p : Standing numbers a s nobody) where
+  without : ℕ → ℕ
+  without j = if (eqb n j) 0 (s j)
+
+  in-queue : (j : ℕ) → has (a .ready) j ≡ if (eqb n j) true (has rest j)
+  unfolding has
+  in-queue j = rw e
+
+  was-ready : (j : ℕ) → eqb n j ≡ true → s j ≡ 2
+  was-ready j o = eqb-true (s j) 2 (sym (p .queued j) ∙ rw (in-queue j, o))
+
+  -- no other test of a standing than that for 2 sees the change
+  same-but : (v j : ℕ) → eqb 2 v ≡ false → eqb 0 v ≡ false → eqb (s j) v ≡ eqb (without j) v
+  unfolding without
+  same-but v j two zero = by-test (eqb n j) (λ o. rw (o, was-ready j o, two, zero)) (λ o. rw o)
+
+  new-once : (j : ℕ) → times j (tokensOf (a .deferred)) + times j rest ≤ 1
+  unfolding times
+  new-once j = omega (arith, rw e at (p .once j))
+
+  new-queued : (j : ℕ) → has rest j ≡ eqb (without j) 2
+  unfolding without times
+  new-queued j = by-test (eqb n j)
+    (λ o. rw o (times-none rest j (omega (arith, rw (e, o) at (p .once j)))))
+    (λ o. rw o (sym (rw (in-queue j, o)) ∙ p .queued j))
+
+  ready-standing : Standing numbers (record { count = a .count; ready = rest; deferred = a .deferred }) without (only n)
+  unfolding without
+  ready-standing =
+      record {
+        waiting = waiting-same numbers s without (λ j. same-but 3 j refl refl) (a .deferred) (p .waiting);
+        marked = λ j. p .marked j ∙ same-but 1 j refl refl;
+        queued = new-queued;
+        once = new-once;
+        fresh = λ j l. by-test (eqb n j) (λ o. rw o) (λ o. rw o (p .fresh j l));
+        settled = λ j l x y o. rw o (p .settled j l x (rw (in-queue j, o) y) refl);
+        outside = λ j o. (rw o, (let j-is : n ≡ j = eqb-true n j o in omega (arith, (rw e at (ready-low p)) .0))) }
 
 module _ (tokens : ℕ) (numbers : ℕ → List ℕ) (a : rules.Tables) (t : Tables) (m : List ℕ) (p : Match tokens numbers a (t, m) nobody) where
   -- a ready token
   pub ready-match : (n : ℕ) (rest : List ℕ) → a .ready ≡ n ∷ rest
     → TakenMatch tokens numbers (took n (record { count = a .count; ready = rest; deferred = a .deferred })) (takeOf t m)
-  unfolding takeOf takeReady
+  unfolding takeOf takeReady without
   ready-match n rest e =
       let long : length (slice (28672 + t .first) (28672 + t .end) m) ≡ (28672 + t .end) - (28672 + t .first) =
         length-slice (28672 + t .first) (28672 + t .end) m (omega (arith, p .range .end, p .whole)) in
@@ -61,20 +85,33 @@ module _ (tokens : ℕ) (numbers : ℕ → List ℕ) (a : rules.Tables) (t : Tab
         sym (slice-cons (28672 + t .first) (28672 + t .end) m 0 (omega arith) (omega (arith, p .range .end, p .whole))) ∙ p .queue ∙ e in
       let token-is : getD m (28672 + t .first) 0 ≡ n = cc in
       let rest-is : slice (suc (28672 + t .first)) (28672 + t .end) m ≡ rest = cc in
-      let low : n < a .count = (rw e at (p .standing .low-ready)) .0 in
+      let low : n < a .count = (rw e at (ready-low (p .standing))) .0 in
+      let small : n < 4096 = omega (arith, p .range .count, p .count, p .range .tokens) in
+      let cleared : List ℕ = set m (20480 + n) 0 in
+      let long : length cleared ≡ length m = length-set m (20480 + n) 0 in
+      let tables : drop 24576 cleared ≡ drop 24576 m = drop-set-lt 24576 m (20480 + n) 0 (omega arith) in
+      let standing : standingOf (take 24576 cleared) ≡ without numbers a (standingOf (take 24576 m)) n rest e (p .standing) =
+        fun-ext (λ j. standing-set m (p .whole) n 0 j small) in
       let next : suc (28672 + t .first) ≡ 28672 + (t .first + 1) = omega arith in
-      ((record { tokens = t .tokens; count = t .count; first = t .first + 1; end = t .end; held = t .held }, m),
+      ((withoutFirst t, cleared),
         rw (lt-ltb (t .first) (t .end) some, token-is, lt-ltb n (t .tokens) (omega (arith, p .range .count, p .count))),
         record {
           range = record { tokens = p .range .tokens; count = p .range .count; queue = omega arith; end = p .range .end; held = p .range .held };
-          whole = p .whole;
+          whole = rw long (p .whole);
           size = p .size;
           count = p .count;
           room = p .room;
-          queue = rw next at rest-is;
-          table = p .table;
-          records = p .records;
-          standing = ready-standing numbers a (standingOf (take 24576 m)) n rest e (p .standing) })
+          queue =
+            slice-same m cleared 24576 (28672 + (t .first + 1)) (28672 + t .end) tables (omega arith) (omega arith) (omega (arith, p .range .end, p .whole)) long
+            ∙ (rw next at rest-is);
+          table =
+            slice-same m cleared 24576 24576 (24576 + t .held) tables (omega arith) (omega arith) (omega (arith, p .range .held, p .whole)) long ∙ p .table;
+          records = λ j l.
+            recorded-same (take 24576 m) (take 24576 cleared)
+            (take-take 20480 24576 cleared (omega arith) ∙ take-set-le 20480 m (20480 + n) 0 (omega arith) ∙ sym (take-take 20480 24576 m (omega arith)))
+            j (omega (arith, p .range .tokens, p .size)) (omega (arith, facts-length m (p .whole))) (omega (arith, facts-length cleared (rw long (p .whole))))
+            (p .records j l);
+          standing = rw standing (ready-standing numbers a (standingOf (take 24576 m)) n rest e (p .standing)) })
 
   -- with no token ready, k tokens are deferred
   module _ (k count : ℕ) (out : ℕ → Bool) (past : a .count + k ≤ count) (inside : count ≤ tokens)

@@ -6,7 +6,7 @@ use Prim.Native.Nat.{ℕ, _<_, _≤_}
 use native.Mathlib.Omega.{arith}
 use lib.ListN.{length, take}
 use lib.Seq.{slice-empty}
-use Rattle.rules.specs.Lists.{has}
+use Rattle.rules.specs.Lists.{has, times}
 use Rattle.rules.specs.TakingTokens as rules
 use Rattle.rules.specs.Sources.{Writes}
 use Rattle.rules.specs.PlainSheet.{plainSource}
@@ -30,17 +30,16 @@ module _ (tokens : ℕ) (numbers : ℕ → List ℕ) where
   module _ (m : List ℕ) (few : tokens ≤ 4096) (whole : 32768 ≤ length m)
     (records : (n : ℕ) → n < tokens → Recorded (take 24576 m) n (numbers n)) (zeros : (n : ℕ) → standingOf (take 24576 m) n ≡ 0) where
     opened-standing : Standing numbers rules.opened (standingOf (take 24576 m)) nobody
-    unfolding has
+    unfolding has times
     opened-standing =
         record {
           waiting = tt;
           marked = λ n. rw (zeros n);
+          queued = λ n. rw (zeros n);
+          once = λ n. omega arith;
           fresh = λ n l. zeros n;
           settled = λ n l x y o. absurd (omega arith);
-          apart = λ n y. refl;
-          outside = λ n o. absurd (true≢false (sym o));
-          low = tt;
-          low-ready = tt }
+          outside = λ n o. absurd (true≢false (sym o)) }
 
     pub opened-match : Match tokens numbers rules.opened (openedTables tokens, m) nobody
     opened-match =

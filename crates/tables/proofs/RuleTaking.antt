@@ -8,7 +8,7 @@ use native.Mathlib.Nat.{add-zero}
 use borrow.Author.Tests.{lt-ltb, le-ltb, le-leb, lt-leb, ne-eqb, ltb-true, ltb-false, leb-true, leb-false, eqb-true, eqb-false}
 use lib.Dec.{leb, ltb, eqb}
 use lib.Seq.{append-snoc}
-use Rattle.rules.specs.Lists.{if, keep, has}
+use Rattle.rules.specs.Lists.{if, keep, has, times, Every}
 use Rattle.rules.specs.TakingTokens.{Held, Taken, none, took, tokensOf, isDue, raised, hold, takeNew}
 use Rattle.rules.specs.TakingTokens as rules
 use Rattle.tables.specs.declared.Test.{Test}
@@ -17,9 +17,11 @@ use Rattle.tables.specs.Facts.{standingOf, dueOf, holdsOf, anyOf, ofNumb
 use Rattle.rules.specs.Lists.{any}
 use Rattle.rules.specs.Lists.{range}
 use Rattle.tables.specs.Taking.{firstFree}
-use Rattle.tables.specs.Matching.{Recorded, Waiting, Standing, nobody}
+use Rattle.tables.specs.Matching.{Recorded, Waits, Standing, nobody}
 use Rattle.rules.proofs.lists.Tests.{if-same, if-eta, bool-ext, by-test}
-use Rattle.rules.proofs.lists.Members.{has-append, has-range, empty-keep, keep-cong, keep-same, below-append, below-range, below-mono}
+use Rattle.rules.proofs.lists.Members.{has-append, has-range, empty-keep, keep-cong, keep-same}
+use Rattle.rules.proofs.lists.Counting.{members, times-append}
+use Rattle.rules.proofs.lists.EveryLaws.{every-weaken, every-append}
 
 pub tokens-append : (l r : List Held) → tokensOf (l ++ r) ≡ tokensOf l ++ tokensOf r
 tokens-append [] r = refl
@@ -144,6 +146,16 @@ module _ (numbers : ℕ → List ℕ) (f : List ℕ) (c tokens : ℕ) where
       (λ b-is. together-waits left a p (records (a .count) (omega arith)) e b-is later)
       (λ b-is. together-free left a p (records (a .count) (omega arith)) e b-is)
 
+-- no number comes twice in a range
+times-range : (i k n : ℕ) → (times n (range i k) ≤ 1) × (n < i → times n (range i k) ≡ 0)
+unfolding times range
+times-range i zero n = omega arith
+times-range i (suc k) n =
+    let (once, later) = times-range (suc i) k n in
+    by-test (eqb i n)
+    (λ e. let i-is : i ≡ n = eqb-true i n e in rw e (omega (arith, later (omega arith))))
+    (λ e. rw e (omega arith, (λ h. omega (arith, later (omega arith)))))
+
 -- the standing of each token after those of a list got a new one
 abbrev pub marked : (ℕ → ℕ) → ℕ → List ℕ → ℕ → ℕ
 marked standing v ts n = if (has ts n) v (standing n)
@@ -156,15 +168,11 @@ tokens-held g h (t ∷ ts) = rw (h t, tokens-held g h ts)
 pub tokens-after : (numbers : ℕ → List ℕ) (f : List ℕ) (c : ℕ) (l : List Held) (ts : List ℕ) → tokensOf (l ++ map (heldOf numbers f c) ts) ≡ tokensOf l ++ ts
 tokens-after numbers f c l ts = rw (tokens-append l (map (heldOf numbers f c) ts), tokens-held (heldOf numbers f c) (λ t. refl) ts)
 
-waiting-append : (numbers : ℕ → List ℕ) (standing : ℕ → ℕ) (l r : List Held) → Waiting numbers standing l → Waiting numbers standing r → Waiting numbers standing (l ++ r)
-waiting-append numbers standing [] r hl hr = hr
-waiting-append numbers standing (h ∷ l) r hl hr = (hl .0, waiting-append numbers standing l r (hl .1) hr)
-
 -- standings that agree on which tokens have finished have the same tokens waiting
-pub waiting-same : (numbers : ℕ → List ℕ) (s s′ : ℕ → ℕ) → ((n : ℕ) → eqb (s n) 3 ≡ eqb (s′ n) 3) → (l : List Held) → Waiting numbers s l → Waiting numbers s′ l
-waiting-same numbers s s′ h [] w = tt
-waiting-same numbers s s′ h (x ∷ l) w =
-    ((w .0 .0 ∙ keep-cong (λ n. ap not (h n)) (numbers (x .token)), w .0 .1), waiting-same numbers s s′ h l (w .1))
+pub waiting-same : (numbers : ℕ → List ℕ) (s s′ : ℕ → ℕ) → ((n : ℕ) → eqb (s n) 3 ≡ eqb (s′ n) 3) → (l : List Held) →
+    Every (Waits numbers s) l → Every (Waits numbers s′) l
+waiting-same numbers s s′ h =
+    every-weaken (Waits numbers s) (Waits numbers s′) (λ x w. (w .0 ∙ keep-cong (λ n. ap not (h n)) (numbers (x .token)), w .1))
 
 module _ (numbers : ℕ → List ℕ) (self : (n : ℕ) → has (numbers n) n ≡ false) (f : List ℕ) (a : rules.Tables)
   (s : Standing numbers a (standingOf f) nobody) (none-ready : a .ready ≡ []) (k : ℕ) where
@@ -202,7 +210,7 @@ module _ (numbers : ℕ → List ℕ) (self : (n : ℕ) → has (numbers n) n �
         (λ l. rw (l, s .settled n (ltb-true n (a .count) l) (s .marked n ∙ e) (no-ready n) refl))
         (λ l. rw (l, ne-eqb n t other, s .fresh n (ltb-false n (a .count) l))))))
 
-  waiting-new : (ts : List ℕ) → AllDue numbers f (a .count) ts → Waiting numbers new (map (heldOf numbers f (a .count)) ts)
+  waiting-new : (ts : List ℕ) → AllDue numbers f (a .count) ts → Every (Waits numbers new) (map (heldOf numbers f (a .count)) ts)
   waiting-new [] w = tt
   waiting-new (t ∷ ts) w =
       ((keep-same (dueOf f (a .count) t) (λ n. not (eqb (new n) 3)) (numbers t)
@@ -229,9 +237,23 @@ module _ (numbers : ℕ → List ℕ) (self : (n : ℕ) → has (numbers n) n �
   range-none : (n : ℕ) → a .count + k ≤ n → has (range (a .count) k) n ≡ false
   range-none n h = rw (has-range (a .count) k n, le-ltb n (a .count + k) h) (if-same (leb (a .count) n) false)
 
-  table-none : (n : ℕ) → a .count + k ≤ n → has new-table n ≡ false
+  new-queued : (n : ℕ) → has (a .ready) n ≡ eqb (new n) 2
+  unfolding new
+  new-queued n =
+      by-test (has (range (a .count) k) n)
+      (λ e. rw (e, no-ready n))
+      (λ e. rw e (s .queued n))
+
+  -- a token passed over was not in the table before
+  new-once : (n : ℕ) → times n new-table + times n (a .ready) ≤ 1
   unfolding new-table
-  table-none n h = rw (has-append (tokensOf (a .deferred)) (range (a .count) k) n, range-none n h, s .marked n, s .fresh n (omega arith))
+  new-once n =
+      rw (times-append n (tokensOf (a .deferred)) (range (a .count) k))
+      (by-test (has (range (a .count) k) n)
+      (λ e.
+        let apart : has (tokensOf (a .deferred)) n ≡ false = rw (s .marked n, passed-fresh n e) in
+        omega (members, times-range (a .count) k n .0, no-ready n))
+      (λ e. omega (members, s .once n)))
 
   new-settled : (n : ℕ) → n < a .count + k → has new-table n ≡ false → new n ≡ 3
   unfolding new new-table
@@ -256,12 +278,11 @@ module _ (numbers : ℕ → List ℕ) (self : (n : ℕ) → has (numbers n) n �
   unfolding new new-table
   new-standing count out h due below at =
       record {
-        waiting = waiting-append numbers new (a .deferred) _ (waiting-same numbers (standingOf f) new finished-same (a .deferred) (s .waiting))
+        waiting = every-append (Waits numbers new) (a .deferred) _ (waiting-same numbers (standingOf f) new finished-same (a .deferred) (s .waiting))
           (waiting-new (range (a .count) k) due);
         marked = λ n. rw new-table-is (new-marked n);
+        queued = new-queued;
+        once = λ n. rw new-table-is (new-once n);
         fresh = λ n l. rw (range-none n (omega arith)) (s .fresh n (omega arith));
         settled = λ n l t r o. new-settled n (below n l o) (rw new-table-is at t);
-        apart = λ n r. absurd (true≢false (sym r ∙ no-ready n));
-        outside = λ n o. (rw new-table-is (table-none n (omega (arith, at n o .0))), at n o .1);
-        low = rw new-table-is (below-append count (tokensOf (a .deferred)) (range (a .count) k) (below-mono {k = count} (tokensOf (a .deferred)) (omega arith) (s .low)) (below-range count (a .count) k h));
-        low-ready = below-mono {k = count} (a .ready) (omega arith) (s .low-ready) }
+        outside = λ n o. (rw (range-none n (omega (arith, at n o .0))) (s .fresh n (omega (arith, at n o .0))), at n o .1) }

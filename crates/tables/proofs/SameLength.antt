@@ -3,7 +3,7 @@ use mathlib.Core.Path.{_≡_, _∙_}
 use mathlib.Core.List.{List}
 use Prim.Native.Nat.{ℕ, _+_, _-_}
 use lib.Dec.{leb, ltb}
-use lib.ListN.{length, getD, length-set}
+use lib.ListN.{length, length-set}
 use lib.Seq.{length-sets}
 use Rattle.rules.specs.RelatedSources.{OnTaken, OnReleased, Keeps}
 use Rattle.rules.proofs.lists.Tests.{by-test}
@@ -11,7 +11,7 @@ use Rattle.tables.specs.declared.Tables.{Tables}
 use Rattle.tables.specs.declared.Count.{Count}
 use Rattle.tables.specs.Facts.{factsOf}
 use Rattle.tables.specs.State.{State, soundOf}
-use Rattle.tables.specs.Taking.{findOf, deferredUpto, takeUpto, takeReady, takeOf}
+use Rattle.tables.specs.Taking.{findOf, deferredUpto, oldestOf, takeUpto, takeReady, takeOf}
 use Rattle.tables.specs.Releasing.{wokenIn, unsoundIn, movedMemory, releaseOf}
 use Rattle.tables.specs.Calls.{safeTake, safeRelease, memorySource}
 use Rattle.tables.proofs.MemoryLaws.{length-marks}
@@ -35,7 +35,7 @@ module _ (n : ℕ) where
     take-length : OnTaken Long (takeOf t m)
     unfolding takeOf takeReady
     take-length = by-test (ltb (t .first) (t .end))
-      (λ e. rw e (by-test (ltb (getD m (28672 + t .first) 0) (t .tokens)) (λ l. rw l long) (λ l. rw l tt)))
+      (λ e. rw e (by-test (ltb (oldestOf t m) (t .tokens)) (λ l. rw l (simp length-set long)) (λ l. rw l tt)))
       (λ e. rw e (upto-length (findOf (factsOf m) (t .tokens) (t .count))))
 
     moved-length : (d : ℕ) → length (movedMemory t d m) ≡ n

@@ -1,23 +1,20 @@
 -- The definitions of specs/Taking, case by case, as the code meets them.
 use mathlib.Core.Path.{_≡_, refl, sym, _∙_}
-use mathlib.Core.Bool.{Bool, true, false}
 use mathlib.Core.List.{List}
 use Prim.Native.Nat.{ℕ, zero, suc, _+_, _-_, _<_, _≤_}
 use native.Mathlib.Omega.{arith}
 use borrow.Author.Tests.{lt-ltb, le-ltb, le-leb, lt-leb}
-use lib.Dec.{ltb}
-use lib.ListN.{getD, take}
+use lib.ListN.{take, set}
 use lib.Seq.{sets}
-use Rattle.rules.specs.Lists.{if}
 use Rattle.rules.specs.Sources.{Taken as Outcome, Spoiled, Nothing, Took}
 use Rattle.tables.specs.declared.Tables.{Tables}
 use Rattle.tables.specs.declared.Taken.{Taken}
 use Rattle.tables.specs.declared.Test.{Test}
 use Rattle.tables.specs.declared.Count.{Count}
-use Rattle.tables.specs.Facts.{freeOf, byTest, readyAt}
+use Rattle.tables.specs.Facts.{freeOf, byTest, standingAt}
 use Rattle.tables.specs.State.{State, span, marks}
 use Rattle.rules.specs.Lists.{range}
-use Rattle.tables.specs.Taking.{firstFree, findOf, deferredUpto, withCount, takeUpto, takeReady, takeOf, takenOf, takenMemory}
+use Rattle.tables.specs.Taking.{firstFree, findOf, deferredUpto, withCount, oldestOf, withoutFirst, takeUpto, takeReady, takeOf, takenOf, takenMemory}
 use Rattle.tables.proofs.StateLaws.{span-nil, span-cons}
 
 -- the search for a free token, with the tokens from i on left
@@ -68,29 +65,22 @@ module _ (t : Tables) (m : List ℕ) where
       upto-none h = rw (le-leb (t .held + (upto - t .count)) 4096 room, le-ltb upto (t .tokens) h) (refl, deferred)
 
   -- taking the oldest ready token
-  module _ {token : ℕ} (token-is : token ≡ getD m (readyAt + t .first) 0) where
-    pub ready-bad : t .tokens ≤ token → Taken.Spoiled ≡ takenOf (takeReady t m (getD m (readyAt + t .first) 0))
-    unfolding takeReady takenOf
-    ready-bad h = rw (← token-is, le-ltb token (t .tokens) h)
+  module _ {token : ℕ} (token-is : token ≡ oldestOf t m) where
+    pub ready-bad : t .tokens ≤ token → Gives m (takeReady t m (oldestOf t m)) Taken.Spoiled m
+    unfolding takeReady takenOf takenMemory
+    ready-bad h = rw (← token-is, le-ltb token (t .tokens) h) (refl, refl)
 
-    pub ready-took : token < t .tokens
-      → Taken.Took token (record { tokens = t .tokens; count = t .count; first = t .first + 1; end = t .end; held = t .held })
-        ≡ takenOf (takeReady t m (getD m (readyAt + t .first) 0))
-    unfolding takeReady takenOf
-    ready-took h = rw (← token-is, lt-ltb token (t .tokens) h)
-
-  ready-memory : (b : Bool) (token : ℕ) (u : Tables) → m ≡ takenMemory m (if b (Took token (u, m)) Spoiled)
-  unfolding takenMemory
-  ready-memory true token u = refl
-  ready-memory false token u = refl
+    pub ready-took : {at : ℕ} → at ≡ token → token < t .tokens → Gives m (takeReady t m (oldestOf t m)) (Taken.Took token (withoutFirst t)) (set m (standingAt + at) 0)
+    unfolding takeReady takenOf takenMemory
+    ready-took at-is h = rw (← token-is, lt-ltb token (t .tokens) h, at-is) (refl, refl)
 
   -- taking, by the test of the queue and what is found
-  module _ {r : Taken} where
-    pub take-first : t .first < t .end → r ≡ takenOf (takeReady t m (getD m (readyAt + t .first) 0)) → Gives m (takeOf t m) r m
-    unfolding takeOf takeReady
-    take-first h g = rw (lt-ltb (t .first) (t .end) h) (g, ready-memory (ltb (getD m (readyAt + t .first) 0) (t .tokens)) _ _)
+  module _ {r : Taken} {m′ : List ℕ} where
+    pub take-first : t .first < t .end → Gives m (takeReady t m (oldestOf t m)) r m′ → Gives m (takeOf t m) r m′
+    unfolding takeOf
+    take-first h g = rw (lt-ltb (t .first) (t .end) h) g
 
-    pub take-new : {m′ : List ℕ} {x y : Count} → t .end ≤ t .first → x ≡ findOf (take 24576 m) (t .tokens) (t .count) → x ≡ y
+    pub take-new : {x y : Count} → t .end ≤ t .first → x ≡ findOf (take 24576 m) (t .tokens) (t .count) → x ≡ y
       → Gives m (takeUpto t m y) r m′ → Gives m (takeOf t m) r m′
     unfolding takeOf
     take-new h e y-is g = rw (le-ltb (t .first) (t .end) h, ← e, y-is) g

@@ -2,16 +2,16 @@
 use mathlib.Core.List.{List, [], _∷_}
 use Prim.Native.Nat.{ℕ, _+_, _-_}
 use lib.Dec.{leb, ltb}
-use lib.ListN.{getD}
+use lib.ListN.{getD, set}
 use lib.Seq.{sets}
-use Rattle.rules.specs.Lists.{if}
+use Rattle.rules.specs.Lists.{if, must}
 use Rattle.rules.specs.Sources.{Taken as Outcome, Spoiled, Nothing, Took}
 use Rattle.tables.specs.declared.Tables.{Tables}
 use Rattle.tables.specs.declared.Taken.{Taken}
 use Rattle.tables.specs.declared.Offer.{Offer}
 use Rattle.tables.specs.declared.Test.{Test}
 use Rattle.tables.specs.declared.Count.{Count}
-use Rattle.tables.specs.Facts.{deferredAt, readyAt, factsOf, byTest, freeOf}
+use Rattle.tables.specs.Facts.{standingAt, deferredAt, readyAt, factsOf, byTest, freeOf}
 use Rattle.tables.specs.State.{State, span, marks}
 
 -- the first of some tokens that is free, or `end` where none is
@@ -33,6 +33,14 @@ abbrev pub withCount : Tables → ℕ → ℕ → Tables
 withCount t upto count =
     record { tokens = t .tokens; count = count; first = t .first; end = t .end; held = t .held + (upto - t .count) }
 
+-- "the oldest token in the ready queue"
+abbrev pub oldestOf : Tables → List ℕ → ℕ
+oldestOf t m = getD m (readyAt + t .first) 0
+
+-- the tables after the oldest ready token left the queue
+abbrev pub withoutFirst : Tables → Tables
+withoutFirst t = record { tokens = t .tokens; count = t .count; first = t .first + 1; end = t .end; held = t .held }
+
 -- the tokens passed over are deferred, if the table has room; then a free one is taken, unless none is left
 unfoldable pub takeUpto : Tables → List ℕ → Count → Outcome State
 takeUpto t m Count.Unknown = Spoiled
@@ -43,18 +51,17 @@ takeUpto t m (Count.Known upto) =
       (Nothing (withCount t upto upto, deferredUpto t upto m)))
     Spoiled
 
--- the oldest ready token leaves the queue; the memory stays as it is
+-- "the oldest token in the ready queue" leaves it, and its standing is cleared
 unfoldable pub takeReady : Tables → List ℕ → ℕ → Outcome State
 takeReady t m token =
-    if (ltb token (t .tokens))
-    (Took token (record { tokens = t .tokens; count = t .count; first = t .first + 1; end = t .end; held = t .held }, m))
-    Spoiled
+    must (ltb token (t .tokens)) Spoiled
+    (Took token (withoutFirst t, set m (standingAt + token) 0))
 
 -- the oldest ready token, else a new one
 unfoldable pub takeOf : Tables → List ℕ → Outcome State
 takeOf t m =
     if (ltb (t .first) (t .end))
-    (takeReady t m (getD m (readyAt + t .first) 0))
+    (takeReady t m (oldestOf t m))
     (takeUpto t m (findOf (factsOf m) (t .tokens) (t .count)))
 
 -- what the code returns of it
