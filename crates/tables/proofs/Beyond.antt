@@ -14,7 +14,7 @@ use Rattle.rules.specs.RelatedSources.{mapTaken, mapReleased, Follows}
 use Rattle.rules.proofs.lists.Tests.{by-test}
 use Rattle.tables.specs.declared.Tables.{Tables}
 use Rattle.tables.specs.declared.Count.{Count}
-use Rattle.tables.specs.Facts.{factsOf}
+use Rattle.tables.specs.Layout.{factsOf}
 use Rattle.tables.specs.State.{InRange, soundOf, span, marks, tableOf}
 use Rattle.rules.specs.Lists.{range}
 use Rattle.tables.specs.Taking.{findOf, deferredUpto, oldestOf, takeUpto, takeReady, takeOf}

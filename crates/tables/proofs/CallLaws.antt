@@ -11,7 +11,7 @@ use Rattle.tables.specs.declared.Taken.{Taken}
 use Rattle.tables.specs.declared.Released.{Released}
 use Rattle.tables.specs.declared.Offer.{Offer}
 use Rattle.tables.specs.declared.Count.{Count}
-use Rattle.tables.specs.Facts.{readyAt}
+use Rattle.tables.specs.Layout.{readyAt}
 use Rattle.tables.specs.State.{InRange, soundOf}
 use Rattle.tables.specs.Taking.{findOf, takeUpto, takeReady, takeOf, takenOf, takenMemory, offeredOf}
 use Rattle.tables.specs.Releasing.{releaseOf, releasedOf, releasedMemory}

@@ -9,7 +9,7 @@ use Rattle.rules.specs.RelatedSources.{OnTaken, OnReleased, Keeps}
 use Rattle.rules.proofs.lists.Tests.{by-test}
 use Rattle.tables.specs.declared.Tables.{Tables}
 use Rattle.tables.specs.declared.Count.{Count}
-use Rattle.tables.specs.Facts.{factsOf}
+use Rattle.tables.specs.Layout.{factsOf}
 use Rattle.tables.specs.State.{State, soundOf}
 use Rattle.tables.specs.Taking.{findOf, deferredUpto, oldestOf, takeUpto, takeReady, takeOf}
 use Rattle.tables.specs.Releasing.{wokenIn, unsoundIn, movedMemory, releaseOf}

@@ -11,7 +11,7 @@ use lib.ListN.{length, getD, take, drop, set, replicate, length-append}
 use lib.Seq.{length-take-le, sets, sets-eq, slice, take-set-le, drop-set-lt, take-take, drop-drop, take-add, take-at, drop-at, getD-take, getD-drop}
 use Rattle.rules.specs.Lists.{if}
 use Rattle.tables.specs.declared.Tables.{Tables}
-use Rattle.tables.specs.Facts.{standingAt}
+use Rattle.tables.specs.Layout.{standingAt}
 use Rattle.tables.specs.State.{InRange, soundOf, span, marks}
 use Rattle.rules.specs.Lists.{range}
 

@@ -11,7 +11,8 @@ use Rattle.tables.specs.declared.Tables.{Tables}
 use Rattle.tables.specs.declared.Taken.{Taken}
 use Rattle.tables.specs.declared.Test.{Test}
 use Rattle.tables.specs.declared.Count.{Count}
-use Rattle.tables.specs.Facts.{freeOf, byTest, standingAt}
+use Rattle.tables.specs.Layout.{standingAt}
+use Rattle.tables.specs.Facts.{freeOf, byTest}
 use Rattle.tables.specs.State.{State, span, marks}
 use Rattle.rules.specs.Lists.{range}
 use Rattle.tables.specs.Taking.{firstFree, findOf, deferredUpto, withCount, oldestOf, withoutFirst, takeUpto, takeReady, takeOf, takenOf, takenMemory}

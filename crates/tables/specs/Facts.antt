@@ -1,6 +1,6 @@
 -- What the memory says of each token: its record, its standing, and what follows from them.
 use mathlib.Core.Bool.{Bool, true, false, not}
-use mathlib.Core.List.{List, [], _∷_}
+use mathlib.Core.List.{List}
 use Prim.Native.Nat.{ℕ, _+_, _-_}
 use lib.Dec.{leb, ltb, eqb}
 use lib.ListN.{getD, take, drop}
@@ -8,23 +8,7 @@ use Rattle.rules.specs.Lists.{if, any}
 use Rattle.tables.specs.declared.Numbers.{Numbers}
 use Rattle.tables.specs.declared.Question.{Question}
 use Rattle.tables.specs.declared.Test.{Test}
-
--- where the parts of the memory begin
-abbrev pub positionsAt : ℕ
-positionsAt = 16384
-
-abbrev pub standingAt : ℕ
-standingAt = 20480
-
-abbrev pub deferredAt : ℕ
-deferredAt = 24576
-
-abbrev pub readyAt : ℕ
-readyAt = 28672
-
--- the part that holds the facts of the tokens: records, positions and standings
-abbrev pub factsOf : List ℕ → List ℕ
-factsOf m = take deferredAt m
+use Rattle.tables.specs.Layout.{positionsAt, standingAt, mostNumbers, deferredMark, finishedMark}
 
 -- a number's standing; 0 past the facts' end, for a number that no token can have
 unfoldable pub standingOf : List ℕ → ℕ → ℕ
@@ -35,7 +19,7 @@ unfoldable pub numbersAt : List ℕ → ℕ → Numbers
 numbersAt f place =
     let count : ℕ = getD f place 0 in
     if (eqb place 0) (Numbers.Part 0 0)
-    (if (leb (place + 1 + count) positionsAt) (if (leb 1 count) (if (leb count 16)
+    (if (leb (place + 1 + count) positionsAt) (if (leb 1 count) (if (leb count mostNumbers)
     (Numbers.Part (place + 1) (place + 1 + count)) Numbers.Bad) Numbers.Bad) Numbers.Bad)
 
 -- the number part of a token's record
@@ -44,11 +28,11 @@ numbersOf f t = numbersAt f (getD f (positionsAt + t) 0)
 
 -- a number is due for a token newly taken at this Count: it is deferred, or neither the token nor below Count
 unfoldable pub dueOf : List ℕ → ℕ → ℕ → ℕ → Bool
-dueOf f count t n = if (eqb (standingOf f n) 1) true (if (ltb n count) false (not (eqb n t)))
+dueOf f count t n = if (eqb (standingOf f n) deferredMark) true (if (ltb n count) false (not (eqb n t)))
 
 -- a number other than this token, which has not finished pipe 0
 unfoldable pub leftOf : List ℕ → ℕ → ℕ → Bool
-leftOf f d n = if (eqb (standingOf f n) 3) false (not (eqb n d))
+leftOf f d n = if (eqb (standingOf f n) finishedMark) false (not (eqb n d))
 
 unfoldable pub holdsOf : List ℕ → Question → ℕ → Bool
 holdsOf f (Question.Due count t) n = dueOf f count t n

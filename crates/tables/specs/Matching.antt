@@ -11,7 +11,8 @@ use Rattle.rules.specs.TakingTokens.{Held, tokensOf}
 use Rattle.rules.specs.TakingTokens as rules
 use Rattle.tables.specs.declared.Tables.{Tables}
 use Rattle.tables.specs.declared.Numbers.{Numbers}
-use Rattle.tables.specs.Facts.{factsOf, standingOf, numbersOf, readyAt}
+use Rattle.tables.specs.Layout.{readyAt, lent, noMark, deferredMark, readyMark, finishedMark, factsOf}
+use Rattle.tables.specs.Facts.{standingOf, numbersOf}
 use Rattle.tables.specs.State.{State, InRange, tableOf}
 
 -- a state with more memory lent
@@ -24,22 +25,22 @@ Recorded f n ns = (a : ℕ) × (b : ℕ) × (numbersOf f n ≡ Numbers.Part a b)
 
 -- a deferred token waits for the numbers of its record that have not finished pipe 0, and there are some
 abbrev pub Waits : (ℕ → List ℕ) → (ℕ → ℕ) → Held → Type 0
-Waits numbers standing h = (h .due ≡ keep (λ n. not (eqb (standing n) 3)) (numbers (h .token))) × (empty (h .due) ≡ false)
+Waits numbers standing h = (h .due ≡ keep (λ n. not (eqb (standing n) finishedMark)) (numbers (h .token))) × (empty (h .due) ≡ false)
 
 -- the standings fit the rules' tables, while some tokens, which `out` tells, were taken and have not finished pipe 0
 pub record Standing (numbers : ℕ → List ℕ) (a : rules.Tables) (standing : ℕ → ℕ) (out : ℕ → Bool) : Type 0 where
   pub waiting : Every (Waits numbers standing) (a .deferred)
-  pub marked : (n : ℕ) → has (tokensOf (a .deferred)) n ≡ eqb (standing n) 1
-  pub queued : (n : ℕ) → has (a .ready) n ≡ eqb (standing n) 2
+  pub marked : (n : ℕ) → has (tokensOf (a .deferred)) n ≡ eqb (standing n) deferredMark
+  pub queued : (n : ℕ) → has (a .ready) n ≡ eqb (standing n) readyMark
   pub once : (n : ℕ) → times n (tokensOf (a .deferred)) + times n (a .ready) ≤ 1
-  pub fresh : (n : ℕ) → a .count ≤ n → standing n ≡ 0
-  pub settled : (n : ℕ) → n < a .count → has (tokensOf (a .deferred)) n ≡ false → has (a .ready) n ≡ false → out n ≡ false → standing n ≡ 3
-  pub outside : (n : ℕ) → out n ≡ true → (standing n ≡ 0) × (n < a .count)
+  pub fresh : (n : ℕ) → a .count ≤ n → standing n ≡ noMark
+  pub settled : (n : ℕ) → n < a .count → has (tokensOf (a .deferred)) n ≡ false → has (a .ready) n ≡ false → out n ≡ false → standing n ≡ finishedMark
+  pub outside : (n : ℕ) → out n ≡ true → (standing n ≡ noMark) × (n < a .count)
 
 -- the tables in memory stand for the rules' tables
 pub record Match (tokens : ℕ) (numbers : ℕ → List ℕ) (a : rules.Tables) (x : State) (out : ℕ → Bool) : Type 0 where
   pub range : InRange (x .0)
-  pub whole : 32768 ≤ length (x .1)
+  pub whole : lent ≤ length (x .1)
   pub size : x .0 .tokens ≡ tokens
   pub count : x .0 .count ≡ a .count
   pub room : x .0 .end + x .0 .held ≤ x .0 .count

@@ -1,7 +1,7 @@
 -- A token's finish at pipe 0, on the tables in memory.
 use mathlib.Core.Bool.{Bool, true, false, not}
-use mathlib.Core.List.{List, [], _∷_}
-use Prim.Native.Nat.{ℕ, _+_, _-_, _<_}
+use mathlib.Core.List.{List}
+use Prim.Native.Nat.{ℕ, _+_, _-_}
 use lib.Dec.{leb}
 use lib.ListN.{length, set, replicate}
 use lib.Seq.{sets}
@@ -11,7 +11,8 @@ use Rattle.tables.specs.declared.Tables.{Tables}
 use Rattle.tables.specs.declared.Released.{Released}
 use Rattle.tables.specs.declared.Test.{Test}
 use Rattle.tables.specs.declared.Count.{Count}
-use Rattle.tables.specs.Facts.{standingAt, deferredAt, readyAt, factsOf, byTest, wakesOf}
+use Rattle.tables.specs.Layout.{standingAt, deferredAt, readyAt, mostTokens, readyMark, finishedMark, factsOf}
+use Rattle.tables.specs.Facts.{byTest, wakesOf}
 use Rattle.rules.specs.Lists.{any}
 use Rattle.tables.specs.State.{State, marks, tableOf}
 
@@ -54,14 +55,14 @@ movedMemory t d m =
     let queued : List ℕ = sets m (readyAt + t .end) (wokenIn t d m) in
     let closed : List ℕ = sets queued deferredAt (stayingIn t d m) in
     let cleared : List ℕ = sets closed (deferredAt + length (stayingIn t d m)) (replicate (t .held - length (stayingIn t d m)) 0) in
-    set (marks cleared 2 (wokenIn t d m)) (standingAt + d) 3
+    set (marks cleared readyMark (wokenIn t d m)) (standingAt + d) finishedMark
 
 -- the finish of a token below N, if all records are good and the ready queue has room
 unfoldable pub releaseOf : Tables → ℕ → List ℕ → Outcome State
 releaseOf t d m =
     if (leb (t .tokens) d) Broken
     (if (unsoundIn t d m) Broken
-    (if (leb (t .end + length (wokenIn t d m)) 4096) (Passed (movedTables t d m, movedMemory t d m)) Broken))
+    (if (leb (t .end + length (wokenIn t d m)) mostTokens) (Passed (movedTables t d m, movedMemory t d m)) Broken))
 
 -- what the code returns of it
 unfoldable pub releasedOf : Outcome State → Released

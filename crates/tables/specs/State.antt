@@ -1,30 +1,30 @@
 -- The tables with their memory, their ranges, and lists of tokens in them.
 use mathlib.Core.Bool.{Bool, false}
 use mathlib.Core.List.{List, [], _∷_}
-use Prim.Native.Nat.{ℕ, zero, suc, _+_, _-_, _≤_}
+use Prim.Native.Nat.{ℕ, _+_, _-_, _≤_}
 use lib.Dec.{leb}
 use lib.ListN.{length, set}
 use lib.Seq.{slice}
 use Rattle.rules.specs.Lists.{if, range}
 use Rattle.tables.specs.declared.Tables.{Tables}
-use Rattle.tables.specs.Facts.{standingAt, deferredAt}
+use Rattle.tables.specs.Layout.{standingAt, deferredAt, lent, mostTokens}
 
 abbrev pub State : Type 0
 State = Tables × List ℕ
 
 -- every number of the tables is within its range
 pub record InRange (t : Tables) : Type 0 where
-  pub tokens : t .tokens ≤ 4096
+  pub tokens : t .tokens ≤ mostTokens
   pub count : t .count ≤ t .tokens
   pub queue : t .first ≤ t .end
-  pub end : t .end ≤ 4096
-  pub held : t .held ≤ 4096
+  pub end : t .end ≤ mostTokens
+  pub held : t .held ≤ mostTokens
 
 -- enough memory, and every number of the tables within its range
 unfoldable pub soundOf : State → Bool
 soundOf x =
-    if (leb 32768 (length (x .1))) (if (leb (x .0 .tokens) 4096) (if (leb (x .0 .count) (x .0 .tokens))
-    (if (leb (x .0 .first) (x .0 .end)) (if (leb (x .0 .end) 4096) (leb (x .0 .held) 4096) false) false) false) false) false
+    if (leb lent (length (x .1))) (if (leb (x .0 .tokens) mostTokens) (if (leb (x .0 .count) (x .0 .tokens))
+    (if (leb (x .0 .first) (x .0 .end)) (if (leb (x .0 .end) mostTokens) (leb (x .0 .held) mostTokens) false) false) false) false) false
 
 -- the tables at opening, for N tokens
 abbrev pub openedTables : ℕ → Tables

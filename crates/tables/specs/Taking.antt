@@ -11,7 +11,8 @@ use Rattle.tables.specs.declared.Taken.{Taken}
 use Rattle.tables.specs.declared.Offer.{Offer}
 use Rattle.tables.specs.declared.Test.{Test}
 use Rattle.tables.specs.declared.Count.{Count}
-use Rattle.tables.specs.Facts.{standingAt, deferredAt, readyAt, factsOf, byTest, freeOf}
+use Rattle.tables.specs.Layout.{standingAt, deferredAt, readyAt, mostTokens, noMark, deferredMark, factsOf}
+use Rattle.tables.specs.Facts.{byTest, freeOf}
 use Rattle.tables.specs.State.{State, span, marks}
 
 -- the first of some tokens that is free, or `end` where none is
@@ -26,7 +27,7 @@ findOf f tokens count = firstFree (freeOf f count) tokens (span count tokens)
 
 -- the memory after the tokens from Count up to this one were deferred
 unfoldable pub deferredUpto : Tables → ℕ → List ℕ → List ℕ
-deferredUpto t upto m = marks (sets m (deferredAt + t .held) (span (t .count) upto)) 1 (span (t .count) upto)
+deferredUpto t upto m = marks (sets m (deferredAt + t .held) (span (t .count) upto)) deferredMark (span (t .count) upto)
 
 -- the tables after it, at a new Count
 abbrev pub withCount : Tables → ℕ → ℕ → Tables
@@ -45,7 +46,7 @@ withoutFirst t = record { tokens = t .tokens; count = t .count; first = t .first
 unfoldable pub takeUpto : Tables → List ℕ → Count → Outcome State
 takeUpto t m Count.Unknown = Spoiled
 takeUpto t m (Count.Known upto) =
-    if (leb (t .held + (upto - t .count)) 4096)
+    if (leb (t .held + (upto - t .count)) mostTokens)
     (if (ltb upto (t .tokens))
       (Took upto (withCount t upto (upto + 1), deferredUpto t upto m))
       (Nothing (withCount t upto upto, deferredUpto t upto m)))
@@ -55,7 +56,7 @@ takeUpto t m (Count.Known upto) =
 unfoldable pub takeReady : Tables → List ℕ → ℕ → Outcome State
 takeReady t m token =
     must (ltb token (t .tokens)) Spoiled
-    (Took token (withoutFirst t, set m (standingAt + token) 0))
+    (Took token (withoutFirst t, set m (standingAt + token) noMark))
 
 -- the oldest ready token, else a new one
 unfoldable pub takeOf : Tables → List ℕ → Outcome State
