@@ -4,6 +4,7 @@ use mathlib.Core.Bool.{Bool, true, false, not}
 use mathlib.Core.List.{List, [], _∷_}
 use Prim.Native.Nat.{ℕ, suc, _+_, _-_, _<_, _≤_}
 use native.Mathlib.Omega.{arith}
+use native.Mathlib.Nat.{add-zero}
 use borrow.Author.Tests.{leb-false}
 use lib.Dec.{leb}
 use lib.ListN.{length, set, take, drop, replicate, length-replicate}
@@ -15,7 +16,8 @@ use Rattle.tables.specs.Facts.{wakesOf}
 use Rattle.tables.specs.State.{InRange, marks, tableOf}
 use Rattle.tables.specs.Releasing.{isYes, wokenOf, stayingOf, wokenIn, stayingIn, movedTables, movedMemory}
 use Rattle.rules.specs.Lists.{Below}
-use Rattle.tables.proofs.StateLaws.{take-sets, drop-sets, slice-before, slice-from, slice-sets}
+use Rattle.tables.proofs.StateLaws.{take-sets, drop-sets, slice-before, slice-from, slice-sets, sets-slice}
+use Rattle.rules.proofs.lists.Tests.{by-test}
 
 -- at most all elements pass a test, and what a test implies holds of all that pass
 keep-length : {A : Type 0} (p : A → Bool) (l : List A) → length (keep p l) ≤ length l
@@ -36,6 +38,14 @@ keep-below n p h (a ∷ l) = go (p a) refl (keep-below n p h l)
     go true e r = (h a e, r)
     go false e r = r
 
+-- where no element passes a test, all are left
+keep-none : {A : Type 0} (p : A → Bool) (l : List A) → length (keep p l) ≡ 0 → (keep p l ≡ []) × (keep (λ a. not (p a)) l ≡ l)
+unfolding keep
+keep-none p [] h = (refl, refl)
+keep-none p (a ∷ l) h = by-test (p a)
+  (λ e. absurd (omega (arith, rw e at h)))
+  (λ e. let r = keep-none p l (rw e at h) in rw e (r .0, ap (λ x. a ∷ x) (r .1)))
+
 -- a token that wakes is below N
 wakes-below : (f : List ℕ) (tokens d t : ℕ) → isYes (wakesOf f tokens d t) ≡ true → t < tokens
 unfolding wakesOf
@@ -53,6 +63,29 @@ module _ (t : Tables) (d : ℕ) (m : List ℕ) (ok : InRange t) (whole : 32768 �
   pub woken-below : Below 4096 (wokenIn t d m)
   unfolding wokenOf
   woken-below = keep-below 4096 (λ n. isYes (wakesOf (take 24576 m) (t .tokens) d n)) (λ n h. omega (arith, wakes-below (take 24576 m) (t .tokens) d n h)) (tableOf t m)
+
+  -- where no token wakes nothing moves, and the finished token has its new standing
+  module _ (asleep : length (wokenIn t d m) ≡ 0) where
+    woken-none : wokenIn t d m ≡ []
+    unfolding wokenOf
+    woken-none = keep-none (λ n. isYes (wakesOf (take 24576 m) (t .tokens) d n)) (tableOf t m) asleep .0
+
+    staying-all : stayingIn t d m ≡ tableOf t m
+    unfolding wokenOf stayingOf
+    staying-all = keep-none (λ n. isYes (wakesOf (take 24576 m) (t .tokens) d n)) (tableOf t m) asleep .1
+
+    table-length : length (tableOf t m) ≡ t .held
+    table-length = length-slice 24576 (24576 + t .held) m (omega arith) ∙ omega arith
+
+    pub none-tables : t ≡ movedTables t d m
+    unfolding movedTables
+    none-tables = rw (woken-none, staying-all, table-length, add-zero (t .end))
+
+    pub none-memory : set m (20480 + d) 3 ≡ movedMemory t d m
+    unfolding movedMemory marks
+    none-memory =
+        let gone : t .held - t .held ≡ 0 = omega arith in
+        rw (woken-none, staying-all, sets-slice m 24576 (t .held) (omega arith), table-length, gone)
 
   module _ {m₁ : List ℕ} (queued : m₁ ≡ sets m (28672 + t .end) (wokenIn t d m)) where
     -- the facts and the deferred table are still as they were

@@ -7,8 +7,8 @@ use native.Mathlib.Omega.{arith}
 use native.Mathlib.Numerals.{add-one}
 use borrow.Author.Tests.{le-leb, leb-true}
 use lib.Dec.{leb}
-use lib.ListN.{length, getD, take, drop, set, replicate, length-append}
-use lib.Seq.{length-take-le, sets, sets-eq, slice, take-set-le, drop-set-lt, take-take, drop-drop, take-add, take-at, drop-at, getD-take, getD-drop}
+use lib.ListN.{length, getD, take, drop, set, replicate, length-append, take-append-drop}
+use lib.Seq.{length-take-le, length-slice, sets, sets-eq, slice, take-set-le, drop-set-lt, take-take, drop-drop, take-add, take-at, drop-at, getD-take, getD-drop}
 use Rattle.rules.specs.Lists.{if}
 use Rattle.tables.specs.declared.Tables.{Tables}
 use Rattle.tables.specs.Layout.{standingAt}
@@ -114,6 +114,12 @@ slice-sets vs m i h =
     let e : length (take i m ++ vs) ≡ i + length vs = simp (length-append, length-take-le i m (omega arith)) in
     rw (sets-eq vs m i h, take-at (take i m ++ vs) (drop (i + length vs) m) (i + length vs) e)
     (drop-at (take i m) vs i (length-take-le i m (omega arith)))
+
+-- cells stored again leave the memory as it is
+pub sets-slice : (m : List ℕ) (i n : ℕ) → i + n ≤ length m → sets m i (slice i (i + n) m) ≡ m
+sets-slice m i n h =
+    let long : length (slice i (i + n) m) ≡ n = length-slice i (i + n) m h ∙ omega arith in
+    rw (sets-eq (slice i (i + n) m) m i (omega arith), long, slice-from m i n (omega arith), ← take-add i n m) (take-append-drop (i + n) m)
 
 -- a test in front of another, as tables are tested: both hold
 and-true : (b : Bool) {x : Bool} → if b x false ≡ true → (b ≡ true) × (x ≡ true)

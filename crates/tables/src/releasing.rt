@@ -151,5 +151,10 @@ pub(crate) fn release(mem: &mut [u16], t: Tables, past: u16) -> Released
     if TOKENS - t.end < n {
         return Released::Broken;
     }
+    // Most finishes wake no token: then nothing moves.
+    if n == 0 {
+        mem[STANDINGS + (past as usize)] = FINISHED_MARK;
+        return Released::Passed(t);
+    }
     Released::Passed(move_woken(mem, t, past, n))
 }
