@@ -10,6 +10,7 @@ use lib.Dec.{leb}
 use lib.ListN.{length, getD, take, drop, set, replicate, length-append, take-append-drop}
 use lib.Seq.{length-take-le, length-slice, sets, sets-eq, slice, take-set-le, drop-set-lt, take-take, drop-drop, take-add, take-at, drop-at, getD-take, getD-drop}
 use Rattle.rules.specs.Lists.{if}
+use Rattle.rules.proofs.lists.Tests.{if-eta}
 use Rattle.tables.specs.declared.Tables.{Tables}
 use Rattle.tables.specs.Layout.{standingAt}
 use Rattle.tables.specs.State.{InRange, soundOf, span, marks}
@@ -140,7 +141,7 @@ sound-range t m e =
       count = leb-true (t .count) (t .tokens) (c .0);
       queue = leb-true (t .first) (t .end) (d .0);
       end = leb-true (t .end) 4096 (f .0);
-      held = leb-true (t .held) 4096 (f .1) },
+      held = leb-true (t .held) 4096 (and-true (leb (t .held) 4096) (f .1) .0) },
     leb-true 32768 (length m) (a .0))
 
 -- where all the other numbers are within their ranges, the last decides
@@ -148,3 +149,4 @@ pub sound-last : (t : Tables) (m : List ℕ) → 32768 ≤ length m → t .token
 unfolding soundOf
 sound-last t m a b c d e =
     rw (le-leb 32768 (length m) a, le-leb (t .tokens) 4096 b, le-leb (t .count) (t .tokens) c, le-leb (t .first) (t .end) d, le-leb (t .end) 4096 e)
+    (sym (if-eta (leb (t .held) 4096)))

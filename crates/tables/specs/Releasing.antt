@@ -5,7 +5,7 @@ use Prim.Native.Nat.{ℕ, _+_, _-_}
 use lib.Dec.{leb}
 use lib.ListN.{length, set, replicate}
 use lib.Seq.{sets}
-use Rattle.rules.specs.Lists.{if, keep}
+use Rattle.rules.specs.Lists.{must, mustNot, keep, any}
 use Rattle.rules.specs.Sources.{Released as Outcome, Broken, Passed}
 use Rattle.tables.specs.declared.Tables.{Tables}
 use Rattle.tables.specs.declared.Released.{Released}
@@ -13,7 +13,6 @@ use Rattle.tables.specs.declared.Test.{Test}
 use Rattle.tables.specs.declared.Count.{Count}
 use Rattle.tables.specs.Layout.{standingAt, deferredAt, readyAt, mostTokens, readyMark, finishedMark, factsOf}
 use Rattle.tables.specs.Facts.{byTest, wakesOf}
-use Rattle.rules.specs.Lists.{any}
 use Rattle.tables.specs.State.{State, marks, tableOf}
 
 abbrev pub isYes : Test → Bool
@@ -31,7 +30,9 @@ stayingOf wakes l = keep (λ t. not (isYes (wakes t))) l
 
 -- n more than the tokens of a list that wake, unless one of its records is bad
 unfoldable pub tallyOf : (ℕ → Test) → ℕ → List ℕ → Count
-tallyOf wakes n l = if (any (λ t. isUnsound (wakes t)) l) Count.Unknown (Count.Known (n + length (wokenOf wakes l)))
+tallyOf wakes n l =
+    mustNot (any (λ t. isUnsound (wakes t)) l) Count.Unknown
+    (Count.Known (n + length (wokenOf wakes l)))
 
 -- the tokens of the deferred table that wake at a token's finish, those that stay, and whether a record there is bad
 abbrev pub wokenIn : Tables → ℕ → List ℕ → List ℕ
@@ -43,12 +44,12 @@ stayingIn t d m = stayingOf (wakesOf (factsOf m) (t .tokens) d) (tableOf t m)
 abbrev pub unsoundIn : Tables → ℕ → List ℕ → Bool
 unsoundIn t d m = any (λ n. isUnsound (wakesOf (factsOf m) (t .tokens) d n)) (tableOf t m)
 
--- the tables after these moved to the ready queue
+-- rule 4: "One with none left moves from the deferred table to the end of the ready queue."
 unfoldable pub movedTables : Tables → ℕ → List ℕ → Tables
 movedTables t d m =
     record { tokens = t .tokens; count = t .count; first = t .first; end = t .end + length (wokenIn t d m); held = length (stayingIn t d m) }
 
--- the memory after it: the woken join the ready queue, the others close up, the freed cells become 0, and the woken and
+-- The memory after it, by that as it was: the woken join the ready queue, the others close up, the freed cells become 0, and the woken and
 -- the finished token have their new standings
 unfoldable pub movedMemory : Tables → ℕ → List ℕ → List ℕ
 movedMemory t d m =
@@ -57,19 +58,21 @@ movedMemory t d m =
     let cleared : List ℕ = sets closed (deferredAt + length (stayingIn t d m)) (replicate (t .held - length (stayingIn t d m)) 0) in
     set (marks cleared readyMark (wokenIn t d m)) (standingAt + d) finishedMark
 
--- the finish of a token below N, if all records are good and the ready queue has room
+-- rule 4: "When a token finishes pipe 0, its waiters, in the order entered, lose that number."
+-- Broken where it is no token, where a record in the table is bad, or where the queue goes "past its range"
 unfoldable pub releaseOf : Tables → ℕ → List ℕ → Outcome State
 releaseOf t d m =
-    if (leb (t .tokens) d) Broken
-    (if (unsoundIn t d m) Broken
-    (if (leb (t .end + length (wokenIn t d m)) mostTokens) (Passed (movedTables t d m, movedMemory t d m)) Broken))
+    mustNot (leb (t .tokens) d) Broken
+    (mustNot (unsoundIn t d m) Broken
+    (must (leb (t .end + length (wokenIn t d m)) mostTokens) Broken
+    (Passed (movedTables t d m, movedMemory t d m))))
 
 -- what the code returns of it
 unfoldable pub releasedOf : Outcome State → Released
 releasedOf Broken = Released.Broken
 releasedOf (Passed x) = Released.Passed (x .0)
 
--- what the memory becomes: unchanged where it is broken
+-- what the memory becomes: where it is broken, "state and memory unchanged"
 unfoldable pub releasedMemory : List ℕ → Outcome State → List ℕ
 releasedMemory m Broken = m
 releasedMemory m (Passed x) = x .1

@@ -15,17 +15,17 @@ use Rattle.tables.specs.Layout.{standingAt, deferredAt, readyAt, mostTok
 use Rattle.tables.specs.Facts.{byTest, freeOf}
 use Rattle.tables.specs.State.{State, span, marks}
 
--- the first of some tokens that is free, or `end` where none is
+-- the first of some tokens that is free, or `end` where none is; no answer where a record before it is bad
 unfoldable pub firstFree : (ℕ → Test) → ℕ → List ℕ → Count
 firstFree free end [] = Count.Known end
 firstFree free end (t ∷ ts) =
     byTest (free t) Count.Unknown (Count.Known t) (firstFree free end ts)
 
--- the first free token from Count on, or N where none is
+-- rule 2: "The line takes again, within the same choice": the first free token from Count on, or N where none is
 unfoldable pub findOf : List ℕ → ℕ → ℕ → Count
 findOf f tokens count = firstFree (freeOf f count) tokens (span count tokens)
 
--- the memory after the tokens from Count up to this one were deferred
+-- rule 2: the tokens from Count up to this one are each "added, as last": they join the table in their order
 unfoldable pub deferredUpto : Tables → ℕ → List ℕ → List ℕ
 deferredUpto t upto m = marks (sets m (deferredAt + t .held) (span (t .count) upto)) deferredMark (span (t .count) upto)
 
@@ -42,23 +42,23 @@ oldestOf t m = getD m (readyAt + t .first) 0
 abbrev pub withoutFirst : Tables → Tables
 withoutFirst t = record { tokens = t .tokens; count = t .count; first = t .first + 1; end = t .end; held = t .held }
 
--- the tokens passed over are deferred, if the table has room; then a free one is taken, unless none is left
+-- "token number Count (Count then rises by one) if it was below N, else it stops", after those passed over were deferred;
+-- spoiled where that takes the table "past its range"
 unfoldable pub takeUpto : Tables → List ℕ → Count → Outcome State
 takeUpto t m Count.Unknown = Spoiled
 takeUpto t m (Count.Known upto) =
-    if (leb (t .held + (upto - t .count)) mostTokens)
+    must (leb (t .held + (upto - t .count)) mostTokens) Spoiled
     (if (ltb upto (t .tokens))
       (Took upto (withCount t upto (upto + 1), deferredUpto t upto m))
       (Nothing (withCount t upto upto, deferredUpto t upto m)))
-    Spoiled
 
--- "the oldest token in the ready queue" leaves it, and its standing is cleared
+-- it leaves the queue, and its standing is cleared; spoiled where it is no token
 unfoldable pub takeReady : Tables → List ℕ → ℕ → Outcome State
 takeReady t m token =
     must (ltb token (t .tokens)) Spoiled
     (Took token (withoutFirst t, set m (standingAt + token) noMark))
 
--- the oldest ready token, else a new one
+-- "A line at pipe 0 takes the oldest token in the ready queue, else token number Count"
 unfoldable pub takeOf : Tables → List ℕ → Outcome State
 takeOf t m =
     if (ltb (t .first) (t .end))
@@ -71,7 +71,7 @@ takenOf Spoiled = Taken.Spoiled
 takenOf (Nothing x) = Taken.Nothing (x .0)
 takenOf (Took t x) = Taken.Took t (x .0)
 
--- what the memory becomes: unchanged where it is spoiled
+-- what the memory becomes: where it is spoiled, "state and memory unchanged"
 unfoldable pub takenMemory : List ℕ → Outcome State → List ℕ
 takenMemory m Spoiled = m
 takenMemory m (Nothing x) = x .1
