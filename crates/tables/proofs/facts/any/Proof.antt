@@ -5,7 +5,7 @@ use Prim.Native.Nat.{_≤_, _-_}
 use lib.ListN.{length, drop}
 use Rattle.tables.specs.Facts.{anyOf, holdsOf}
 use Rattle.rules.specs.Lists.{any}
-use Rattle.tables.proofs.FactsLaws as laws
+use Rattle.tables.proofs.memory.FactsLaws as laws
 use Rattle.tables.proofs.facts.any.Statement.{statement}
 use Rattle.tables.proofs.facts.any.Tie as tie
 

@@ -14,7 +14,7 @@ use Rattle.tables.specs.State.{State, soundOf}
 use Rattle.tables.specs.Taking.{findOf, deferredUpto, oldestOf, takeUpto, takeReady, takeOf}
 use Rattle.tables.specs.Releasing.{wokenIn, unsoundIn, movedMemory, releaseOf}
 use Rattle.tables.specs.Calls.{safeTake, safeRelease, memorySource}
-use Rattle.tables.proofs.MemoryLaws.{length-marks}
+use Rattle.tables.proofs.memory.MemoryLaws.{length-marks}
 
 module _ (n : ℕ) where
   -- the memory has this length

@@ -16,7 +16,7 @@ use Rattle.tables.specs.State.{InRange, soundOf}
 use Rattle.tables.specs.Taking.{findOf, takeUpto, takeReady, takeOf, takenOf, takenMemory, offeredOf}
 use Rattle.tables.specs.Releasing.{releaseOf, releasedOf, releasedMemory}
 use Rattle.tables.specs.Calls.{safeTake, safeRelease}
-use Rattle.tables.proofs.StateLaws.{sound-range}
+use Rattle.tables.proofs.memory.Ranges.{sound-range}
 
 module _ (t : Tables) (m : List ℕ) {r : Bool} (told : r ≡ soundOf (t, m)) where
   -- what the test tells of the numbers

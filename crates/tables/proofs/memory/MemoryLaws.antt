@@ -13,8 +13,8 @@ use Rattle.tables.specs.Facts.{standingOf, numbersAt, numbersOf}
 use Rattle.tables.specs.State.{marks}
 use Rattle.rules.specs.Lists.{Below}
 use Rattle.tables.specs.Matching.{Recorded}
-use Rattle.tables.proofs.FactsLaws.{standing-none, at-beyond, numbers-within}
-use Rattle.tables.proofs.StateLaws.{facts-length, take-less, drop-more, cell-below, slice-from}
+use Rattle.tables.proofs.memory.FactsLaws.{standing-none, at-beyond, numbers-within}
+use Rattle.tables.proofs.memory.Cells.{facts-length, take-less, drop-more, cell-below, slice-from}
 use Rattle.rules.proofs.lists.Tests.{by-test}
 
 -- the standing of a number after one token got a new one

@@ -1,19 +1,13 @@
 -- Spans of tokens, runs of stores and marks, one step at a time, and what they leave alone.
 use mathlib.Core.Path.{_≡_, refl, sym, ap, _∙_}
-use mathlib.Core.Bool.{Bool, true, false}
 use mathlib.Core.List.{List, [], _∷_, _++_}
 use Prim.Native.Nat.{ℕ, suc, _+_, _-_, _<_, _≤_}
 use native.Mathlib.Omega.{arith}
 use native.Mathlib.Numerals.{add-one}
-use borrow.Author.Tests.{le-leb, leb-true}
-use lib.Dec.{leb}
 use lib.ListN.{length, getD, take, drop, set, replicate, length-append, take-append-drop}
 use lib.Seq.{length-take-le, length-slice, sets, sets-eq, slice, take-set-le, drop-set-lt, take-take, drop-drop, take-add, take-at, drop-at, getD-take, getD-drop}
-use Rattle.rules.specs.Lists.{if}
-use Rattle.rules.proofs.lists.Tests.{if-eta}
-use Rattle.tables.specs.declared.Tables.{Tables}
 use Rattle.tables.specs.Layout.{standingAt}
-use Rattle.tables.specs.State.{InRange, soundOf, span, marks}
+use Rattle.tables.specs.State.{span, marks}
 use Rattle.rules.specs.Lists.{range}
 
 -- the facts' part of the memory has its whole length
@@ -121,32 +115,3 @@ pub sets-slice : (m : List ℕ) (i n : ℕ) → i + n ≤ length m → sets m i 
 sets-slice m i n h =
     let long : length (slice i (i + n) m) ≡ n = length-slice i (i + n) m h ∙ omega arith in
     rw (sets-eq (slice i (i + n) m) m i (omega arith), long, slice-from m i n (omega arith), ← take-add i n m) (take-append-drop (i + n) m)
-
--- a test in front of another, as tables are tested: both hold
-and-true : (b : Bool) {x : Bool} → if b x false ≡ true → (b ≡ true) × (x ≡ true)
-and-true true e = (refl, e)
-and-true false e = let z : _≡_ {A = ℕ} 0 1 = cc in absurd (omega arith)
-
--- tables that pass the test are within their ranges
-pub sound-range : (t : Tables) (m : List ℕ) → soundOf (t, m) ≡ true → InRange t × (32768 ≤ length m)
-unfolding soundOf
-sound-range t m e =
-    let a = and-true (leb 32768 (length m)) e in
-    let b = and-true (leb (t .tokens) 4096) (a .1) in
-    let c = and-true (leb (t .count) (t .tokens)) (b .1) in
-    let d = and-true (leb (t .first) (t .end)) (c .1) in
-    let f = and-true (leb (t .end) 4096) (d .1) in
-    (record {
-      tokens = leb-true (t .tokens) 4096 (b .0);
-      count = leb-true (t .count) (t .tokens) (c .0);
-      queue = leb-true (t .first) (t .end) (d .0);
-      end = leb-true (t .end) 4096 (f .0);
-      held = leb-true (t .held) 4096 (and-true (leb (t .held) 4096) (f .1) .0) },
-    leb-true 32768 (length m) (a .0))
-
--- where all the other numbers are within their ranges, the last decides
-pub sound-last : (t : Tables) (m : List ℕ) → 32768 ≤ length m → t .tokens ≤ 4096 → t .count ≤ t .tokens → t .first ≤ t .end → t .end ≤ 4096 → leb (t .held) 4096 ≡ soundOf (t, m)
-unfolding soundOf
-sound-last t m a b c d e =
-    rw (le-leb 32768 (length m) a, le-leb (t .tokens) 4096 b, le-leb (t .count) (t .tokens) c, le-leb (t .first) (t .end) d, le-leb (t .end) 4096 e)
-    (sym (if-eta (leb (t .held) 4096)))

@@ -10,8 +10,8 @@ use Rattle.tables.specs.Facts.{wakesOf}
 use Rattle.tables.specs.State.{marks}
 use Rattle.tables.specs.Releasing.{isYes, wokenOf, stayingOf}
 use Rattle.rules.specs.Lists.{Below}
-use Rattle.tables.proofs.StateLaws.{take-less, drop-more, cell-below, cell-from, sets-store, sets-none, marks-store, marks-none}
-use Rattle.tables.proofs.ReleasingLaws.{cells-next, cells-end, woken-yes, woken-no, woken-end, staying-yes, staying-no, staying-end, seen}
+use Rattle.tables.proofs.memory.Cells.{take-less, drop-more, cell-below, cell-from, sets-store, sets-none, marks-store, marks-none}
+use Rattle.tables.proofs.code.ReleasingLaws.{cells-next, cells-end, woken-yes, woken-no, woken-end, staying-yes, staying-no, staying-end, seen}
 
 -- the tokens that wake, or stay, from a cell on, as the memory was at first
 abbrev pub wakeFrom : List ℕ → ℕ → ℕ → ℕ → ℕ → List ℕ

@@ -23,10 +23,10 @@ use Rattle.tables.specs.Matching.{Standing, Match, nobody, only}
 use Rattle.rules.proofs.lists.Tests.{if-eta, by-test}
 use Rattle.rules.proofs.lists.Counting.{times-none}
 use Rattle.rules.proofs.lists.Members.{below-range, length-range}
-use Rattle.tables.proofs.StateLaws.{take-sets, drop-sets, drop-more, facts-length}
-use Rattle.tables.proofs.MemoryLaws.{standing-set, length-marks, take-marks, drop-marks, standing-marks, recorded-same, slice-append, slice-same}
-use Rattle.tables.proofs.RuleTaking.{Passing, after, Together, new-tokens, new-standing, tokens-after, marked, waiting-same}
-use Rattle.tables.proofs.StandingLaws.{ready-low}
+use Rattle.tables.proofs.memory.Cells.{take-sets, drop-sets, drop-more, facts-length}
+use Rattle.tables.proofs.memory.MemoryLaws.{standing-set, length-marks, take-marks, drop-marks, standing-marks, recorded-same, slice-append, slice-same}
+use Rattle.tables.proofs.matching.RuleTaking.{Passing, after, Together, new-tokens, new-standing, tokens-after, marked, waiting-same}
+use Rattle.tables.proofs.matching.StandingLaws.{ready-low}
 
 -- the memory's outcome of taking stands for the rules' one
 abbrev pub TakenMatch : ℕ → (ℕ → List ℕ) → rules.Taken → Outcome State → Type 0

@@ -19,7 +19,7 @@ use Rattle.rules.proofs.lists.Tests.{if-same, if-eta, by-test}
 use Rattle.rules.proofs.lists.Members.{has-append, keep-keep, empty-keep, keep-cong, any-third, any-none, below-has, below-mono}
 use Rattle.rules.proofs.lists.Counting.{has-keep, times-append, times-split}
 use Rattle.rules.proofs.lists.EveryLaws.{every-weaken, every-map, every-keep}
-use Rattle.tables.proofs.StandingLaws.{table-low}
+use Rattle.tables.proofs.matching.StandingLaws.{table-low}
 
 module _ (f : List ℕ) (tokens d : ℕ) where
   -- what the answer about a token below N with a good record is

@@ -15,7 +15,7 @@ use Rattle.tables.specs.Facts.{standingOf}
 use Rattle.tables.specs.State.{State, openedTables}
 use Rattle.tables.specs.Matching.{Recorded, Standing, Match, nobody}
 use Rattle.tables.specs.Calls.{memorySource}
-use Rattle.tables.proofs.Joint.{memorySide, memory-follows, joint-writes}
+use Rattle.tables.proofs.sources.Joint.{memorySide, memory-follows, joint-writes}
 
 module _ (tokens : ℕ) (numbers : ℕ → List ℕ) where
   -- what the rules' tables write down, the tables in memory write down

@@ -2,11 +2,10 @@
 use mathlib.Core.Path.{_≡_, refl, subst, _∙_}
 use mathlib.Core.Bool.{Bool, true, false}
 use mathlib.Core.List.{List}
-use Prim.Native.Nat.{ℕ, _≤_}
+use Prim.Native.Nat.{ℕ}
 use native.Mathlib.Omega.{arith}
-use borrow.Author.Tests.{eqb-true, eq-eqb, le-leb}
+use borrow.Author.Tests.{eqb-true, eq-eqb}
 use lib.Dec.{eqb}
-use lib.ListN.{length}
 use Rattle.rules.specs.Lists.{if, has}
 use Rattle.rules.specs.TakingTokens.{none, took}
 use Rattle.rules.specs.TakingTokens as rules
@@ -15,20 +14,14 @@ use Rattle.rules.specs.PlainSheet.{offered, plainSource}
 use Rattle.rules.specs.RelatedSources.{mapTaken, mapReleased, Follows}
 use Rattle.rules.proofs.lists.Tests.{by-test}
 use Rattle.tables.specs.declared.Tables.{Tables}
-use Rattle.tables.specs.State.{State, InRange, soundOf}
+use Rattle.tables.specs.State.{State, soundOf}
 use Rattle.tables.specs.Taking.{takeOf}
 use Rattle.tables.specs.Releasing.{releaseOf}
 use Rattle.tables.specs.Matching.{Match, nobody, only}
 use Rattle.tables.specs.Calls.{safeTake, safeRelease, memorySource}
-use Rattle.tables.proofs.MatchTaking.{TakenMatch, take-match}
-use Rattle.tables.proofs.MatchReleasing.{release-match}
-
--- tables within their ranges are sound
-pub range-sound : (t : Tables) (m : List ℕ) → InRange t → 32768 ≤ length m → soundOf (t, m) ≡ true
-unfolding soundOf
-range-sound t m ok whole =
-    rw (le-leb 32768 (length m) whole, le-leb (t .tokens) 4096 (ok .tokens), le-leb (t .count) (t .tokens) (ok .count),
-      le-leb (t .first) (t .end) (ok .queue), le-leb (t .end) 4096 (ok .end), le-leb (t .held) 4096 (ok .held))
+use Rattle.tables.proofs.memory.Ranges.{range-sound}
+use Rattle.tables.proofs.matching.MatchTaking.{TakenMatch, take-match}
+use Rattle.tables.proofs.matching.MatchReleasing.{release-match}
 
 -- of sound tables the public calls are taking and releasing themselves
 pub safe-take : (x : State) → soundOf x ≡ true → safeTake x ≡ takeOf (x .0) (x .1)

@@ -23,10 +23,11 @@ use Rattle.rules.specs.Lists.{Below}
 use Rattle.tables.specs.Matching.{beyond}
 use Rattle.tables.specs.Calls.{safeTake, safeRelease, memorySource}
 use Rattle.rules.proofs.lists.Members.{below-range, length-range}
-use Rattle.tables.proofs.MemoryLaws.{length-marks}
-use Rattle.tables.proofs.Moves.{staying-length, woken-below}
-use Rattle.tables.proofs.TakingLaws.{found-within}
-use Rattle.tables.proofs.Joint.{Joint, memorySide, sides-match, takeJoint, releaseJoint, jointSource, memory-follows, range-sound, safe-take, safe-release}
+use Rattle.tables.proofs.memory.MemoryLaws.{length-marks}
+use Rattle.tables.proofs.code.Moves.{staying-length, woken-below}
+use Rattle.tables.proofs.code.TakingLaws.{found-within}
+use Rattle.tables.proofs.memory.Ranges.{range-sound}
+use Rattle.tables.proofs.sources.Joint.{Joint, memorySide, sides-match, takeJoint, releaseJoint, jointSource, memory-follows, safe-take, safe-release}
 
 module _ (r : List ℕ) where
   -- stores and marks within a list

@@ -20,10 +20,10 @@ use Rattle.tables.specs.Releasing.{isYes, isUnsound, wokenOf, stayingOf,
 use Rattle.rules.specs.Lists.{Below}
 use Rattle.tables.specs.Matching.{Recorded, Standing, Match, nobody, only}
 use Rattle.rules.proofs.lists.Members.{keep-all, below-keep, below-mono}
-use Rattle.tables.proofs.StateLaws.{take-sets, drop-sets, drop-more, facts-length, slice-before, slice-sets}
-use Rattle.tables.proofs.MemoryLaws.{standing-set, length-marks, take-marks, drop-marks, standing-marks, recorded-same, slice-append, slice-same}
-use Rattle.tables.proofs.StandingLaws.{table-low}
-use Rattle.tables.proofs.RuleReleasing.{finished, woken-are, staying-are, none-unsound, release-standing}
+use Rattle.tables.proofs.memory.Cells.{take-sets, drop-sets, drop-more, facts-length, slice-before, slice-sets}
+use Rattle.tables.proofs.memory.MemoryLaws.{standing-set, length-marks, take-marks, drop-marks, standing-marks, recorded-same, slice-append, slice-same}
+use Rattle.tables.proofs.matching.StandingLaws.{table-low}
+use Rattle.tables.proofs.matching.RuleReleasing.{finished, woken-are, staying-are, none-unsound, release-standing}
 
 -- the memory after some tokens joined the ready queue, others closed up, and a token finished
 module _ (m : List ℕ) (whole : 32768 ≤ length m) (end held d : ℕ) (woken staying : List ℕ)

@@ -16,7 +16,7 @@ use Rattle.tables.specs.Facts.{wakesOf}
 use Rattle.tables.specs.State.{InRange, marks, tableOf}
 use Rattle.tables.specs.Releasing.{isYes, wokenOf, stayingOf, wokenIn, stayingIn, movedTables, movedMemory}
 use Rattle.rules.specs.Lists.{Below}
-use Rattle.tables.proofs.StateLaws.{take-sets, drop-sets, slice-before, slice-from, slice-sets, sets-slice}
+use Rattle.tables.proofs.memory.Cells.{take-sets, drop-sets, slice-before, slice-from, slice-sets, sets-slice}
 use Rattle.rules.proofs.lists.Tests.{by-test}
 
 -- at most all elements pass a test, and what a test implies holds of all that pass

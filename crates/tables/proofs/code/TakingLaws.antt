@@ -16,7 +16,7 @@ use Rattle.tables.specs.Facts.{freeOf, byTest}
 use Rattle.tables.specs.State.{State, span, marks}
 use Rattle.rules.specs.Lists.{range}
 use Rattle.tables.specs.Taking.{firstFree, findOf, deferredUpto, withCount, oldestOf, withoutFirst, takeUpto, takeReady, takeOf, takenOf, takenMemory}
-use Rattle.tables.proofs.StateLaws.{span-nil, span-cons}
+use Rattle.tables.proofs.memory.Cells.{span-nil, span-cons}
 
 -- the search for a free token, with the tokens from i on left
 module _ {whole : Count} (free : ℕ → Test) (i n : ℕ) (left : whole ≡ firstFree free n (span i n)) where
