@@ -68,8 +68,8 @@ freeOf f count t = ofNumbers (λ ns. mustNot (anyOf f (Question.Due count t) ns)
 unfoldable pub wakesOf : List ℕ → ℕ → ℕ → ℕ → Test
 wakesOf f tokens d t =
     let test : List ℕ → Test = λ ns.
-      mustNot (anyOf f (Question.Left d) ns) Test.No
-      (must (anyOf f (Question.Same d) ns) Test.No
-      Test.Yes) in
+    mustNot (anyOf f (Question.Left d) ns) Test.No
+    (must (anyOf f (Question.Same d) ns) Test.No
+    Test.Yes) in
     mustNot (leb tokens t) Test.Unsound
     (ofNumbers test f (numbersOf f t))

@@ -37,7 +37,7 @@ pub record Standing (numbers : ℕ → List ℕ) (a : rules.Tables) (standing : 
   -- a number not yet taken has none, a token taken and in neither has finished pipe 0, unless it is out
   pub fresh : (n : ℕ) → a .count ≤ n → standing n ≡ noMark
   pub settled :
-    (n : ℕ) → n < a .count → has (tokensOf (a .deferred)) n ≡ false → has (a .ready) n ≡ false → out n ≡ false → standing n ≡ finishedMark
+      (n : ℕ) → n < a .count → has (tokensOf (a .deferred)) n ≡ false → has (a .ready) n ≡ false → out n ≡ false → standing n ≡ finishedMark
   pub outside : (n : ℕ) → out n ≡ true → (standing n ≡ noMark) × (n < a .count)
 
 -- the tables in memory stand for the rules' tables

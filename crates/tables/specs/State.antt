@@ -27,12 +27,12 @@ soundOf x =
     let (t, m) = x in
     all
     (leb lent (length m)
-      ∷ leb (t .tokens) mostTokens
-      ∷ leb (t .count) (t .tokens)
-      ∷ leb (t .first) (t .end)
-      ∷ leb (t .end) mostTokens
-      ∷ leb (t .held) mostTokens
-      ∷ [])
+    ∷ leb (t .tokens) mostTokens
+    ∷ leb (t .count) (t .tokens)
+    ∷ leb (t .first) (t .end)
+    ∷ leb (t .end) mostTokens
+    ∷ leb (t .held) mostTokens
+    ∷ [])
 
 -- the tables at opening, for N tokens: "Count 0 and the rest empty"
 abbrev pub openedTables : ℕ → Tables

@@ -49,8 +49,8 @@ takeUpto t m Count.Unknown = Spoiled
 takeUpto t m (Count.Known upto) =
     must (leb (t .held + (upto - t .count)) mostTokens) Spoiled
     (if (ltb upto (t .tokens))
-      (Took upto (withCount t upto (upto + 1), deferredUpto t upto m))
-      (Nothing (withCount t upto upto, deferredUpto t upto m)))
+    (Took upto (withCount t upto (upto + 1), deferredUpto t upto m))
+    (Nothing (withCount t upto upto, deferredUpto t upto m)))
 
 -- it leaves the queue, and its standing is cleared; spoiled where it is no token
 unfoldable pub takeReady : Tables → List ℕ → ℕ → Outcome State

@@ -10,8 +10,11 @@
 
 // Where the parts begin, after the records.
 pub(crate) const POSITIONS: usize = 16384;
+
 pub(crate) const STANDINGS: usize = 20480;
+
 pub(crate) const DEFERRED: usize = 24576;
+
 pub(crate) const READY: usize = 28672;
 
 // How many numbers are lent.
@@ -25,6 +28,9 @@ pub(crate) const RECORD_NUMBERS: usize = 16;
 
 // The standings.
 pub(crate) const NO_MARK: u16 = 0;
+
 pub(crate) const DEFERRED_MARK: u16 = 1;
+
 pub(crate) const READY_MARK: u16 = 2;
+
 pub(crate) const FINISHED_MARK: u16 = 3;

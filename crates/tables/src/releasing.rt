@@ -1,8 +1,16 @@
 // A token's finish at pipe 0.
-use crate::facts::{wakes, wide};
-use crate::layout::{DEFERRED, FINISHED_MARK, READY, READY_MARK, STANDINGS, TOKENS};
-use crate::{Count, Released, Tables, Test};
-
+use crate::Count;
+use crate::Released;
+use crate::Tables;
+use crate::Test;
+use crate::facts::wakes;
+use crate::facts::wide;
+use crate::layout::DEFERRED;
+use crate::layout::FINISHED_MARK;
+use crate::layout::READY;
+use crate::layout::READY_MARK;
+use crate::layout::STANDINGS;
+use crate::layout::TOKENS;
 ghost use mathlib.Core.Path.{_≡_};
 ghost use Prim.Native.Nat.{_+_, _-_, _<_, _≤_};
 ghost use lib.ListN.{length, replicate};
@@ -131,7 +139,13 @@ fn move_woken(mem: &mut [u16], t: Tables, past: u16, n: u16) -> Tables
     clear(mem, kept, last);
     mark_ready(mem, end, end + (n as usize));
     mem[STANDINGS + (past as usize)] = FINISHED_MARK;
-    Tables { tokens: t.tokens, count: t.count, first: t.first, end: t.end + n, held: (kept - DEFERRED) as u16 }
+    Tables {
+        tokens: t.tokens,
+        count: t.count,
+        first: t.first,
+        end: t.end + n,
+        held: (kept - DEFERRED) as u16,
+    }
 }
 
 // A token finishes pipe 0: its waiters lose it, and those with none left become ready.

@@ -43,8 +43,8 @@ keep-none : {A : Type 0} (p : A → Bool) (l : List A) → length (keep p l) ≡
 unfolding keep
 keep-none p [] h = (refl, refl)
 keep-none p (a ∷ l) h = by-test (p a)
-  (λ e. absurd (omega (arith, rw e at h)))
-  (λ e. let r = keep-none p l (rw e at h) in rw e (r .0, ap (λ x. a ∷ x) (r .1)))
+    (λ e. absurd (omega (arith, rw e at h)))
+    (λ e. let r = keep-none p l (rw e at h) in rw e (r .0, ap (λ x. a ∷ x) (r .1)))
 
 -- a token that wakes is below N
 wakes-below : (f : List ℕ) (tokens d t : ℕ) → isYes (wakesOf f tokens d t) ≡ true → t < tokens
@@ -91,8 +91,11 @@ module _ (t : Tables) (d : ℕ) (m : List ℕ) (ok : InRange t) (whole : 32768 �
     -- the facts and the deferred table are still as they were
     pub staying-same : stayingOf (wakesOf (take 24576 m₁) (t .tokens) d) (slice 24576 (24576 + t .held) m₁) ≡ stayingIn t d m
     staying-same =
-        rw (queued, take-sets (wokenIn t d m) m (28672 + t .end) 24576 (omega arith),
-          slice-before (wokenIn t d m) m (28672 + t .end) 24576 (24576 + t .held) (omega arith))
+        rw (
+          queued,
+          take-sets (wokenIn t d m) m (28672 + t .end) 24576 (omega arith),
+          slice-before (wokenIn t d m) m (28672 + t .end) 24576 (24576 + t .held) (omega arith),
+        )
 
     module _ {kept : ℕ} (ends : kept ≡ 24576 + length (stayingOf (wakesOf (take 24576 m₁) (t .tokens) d) (slice 24576 (24576 + t .held) m₁))) where
       pub kept-is : kept ≡ 24576 + length (stayingIn t d m)
@@ -102,11 +105,11 @@ module _ (t : Tables) (d : ℕ) (m : List ℕ) (ok : InRange t) (whole : 32768 �
       kept-within = omega (arith, kept-is, staying-length)
 
       module _ {m₂ m₃ : List ℕ}
-        (closed : m₂ ≡ sets m₁ 24576 (stayingOf (wakesOf (take 24576 m₁) (t .tokens) d) (slice 24576 (24576 + t .held) m₁)))
-        (cleared : m₃ ≡ sets m₂ kept (replicate (24576 + t .held - kept) 0)) where
+          (closed : m₂ ≡ sets m₁ 24576 (stayingOf (wakesOf (take 24576 m₁) (t .tokens) d) (slice 24576 (24576 + t .held) m₁)))
+          (cleared : m₃ ≡ sets m₂ kept (replicate (24576 + t .held - kept) 0)) where
         -- the memory after clearing, from the first
         cleared-is : m₃ ≡ sets (sets (sets m (28672 + t .end) (wokenIn t d m)) 24576 (stayingIn t d m)) (24576 + length (stayingIn t d m))
-          (replicate (t .held - length (stayingIn t d m)) 0)
+            (replicate (t .held - length (stayingIn t d m)) 0)
         cleared-is =
             let zeros : 24576 + t .held - (24576 + length (stayingIn t d m)) ≡ t .held - length (stayingIn t d m) = omega arith in
             rw (cleared, closed, staying-same, queued, kept-is, zeros)
@@ -118,9 +121,9 @@ module _ (t : Tables) (d : ℕ) (m : List ℕ) (ok : InRange t) (whole : 32768 �
             let q : List ℕ = sets m (28672 + t .end) (wokenIn t d m) in
             let k : ℕ = t .held - length s in
             let same : drop (28672 + t .end) m₃ ≡ drop (28672 + t .end) q =
-              rw cleared-is
-              (drop-sets (replicate k 0) (sets q 24576 s) (24576 + length s) (28672 + t .end) (omega (arith, staying-length, length-replicate {A = ℕ} k 0))
-              ∙ drop-sets s q 24576 (28672 + t .end) (omega (arith, staying-length))) in
+            rw cleared-is
+            (drop-sets (replicate k 0) (sets q 24576 s) (24576 + length s) (28672 + t .end) (omega (arith, staying-length, length-replicate {A = ℕ} k 0))
+            ∙ drop-sets s q 24576 (28672 + t .end) (omega (arith, staying-length))) in
             let long : length q ≡ length m = length-sets m (28672 + t .end) (wokenIn t d m) in
             let long₃ : length m₃ ≡ length m = rw cleared-is (simp length-sets) in
             slice-from m₃ (28672 + t .end) n (omega arith)
@@ -129,7 +132,7 @@ module _ (t : Tables) (d : ℕ) (m : List ℕ) (ok : InRange t) (whole : 32768 �
             ∙ rw n-is (slice-sets (wokenIn t d m) m (28672 + t .end) (omega arith))
 
         pub moved-is : {n : ℕ} {m₄ : List ℕ} → n ≡ length (wokenIn t d m) → t .end + n ≤ 4096 → m₄ ≡ marks m₃ 2 (slice (28672 + t .end) (28672 + t .end + n) m₃)
-          → set m₄ (20480 + d) 3 ≡ movedMemory t d m
+            → set m₄ (20480 + d) 3 ≡ movedMemory t d m
         unfolding movedMemory
         moved-is n-is room marked = rw (marked, queue-is n-is room, cleared-is)
 
@@ -137,7 +140,7 @@ module _ (t : Tables) (d : ℕ) (m : List ℕ) (ok : InRange t) (whole : 32768 �
         marks-allowed n-is room = rw (queue-is n-is room) woken-below
 
       pub tables-are : {n : ℕ} → n ≡ length (wokenIn t d m)
-        → _≡_ {A = Tables} (record { tokens = t .tokens; count = t .count; first = t .first; end = t .end + n; held = kept - 24576 }) (movedTables t d m)
+          → _≡_ {A = Tables} (record { tokens = t .tokens; count = t .count; first = t .first; end = t .end + n; held = kept - 24576 }) (movedTables t d m)
       unfolding movedTables
       tables-are n-is =
           let h : 24576 + length (stayingIn t d m) - 24576 ≡ length (stayingIn t d m) = omega arith in

@@ -70,12 +70,13 @@ module _ {m₀ : List ℕ} {tokens d last : ℕ} {m : List ℕ} {at cell : ℕ} 
           high = omega arith;
           room = omega (arith, ap length (first-wakes e), inv .room);
           same = take-set-le 28672 m at (getD m cell 0) (inv .high) ∙ inv .same;
-          left = sets-store m at (inv .left) (first-wakes e) token-is }
+          left = sets-store m at (inv .left) (first-wakes e) token-is;
+        }
 
     pub append-no : r ≡ false → Appending m₀ tokens d last end m at (cell + 1)
     append-no e =
         let rest : wakeFrom m₀ tokens d last cell ≡ wakeFrom m₀ tokens d last (cell + 1) =
-          woken-no (wakesOf (take 24576 m₀) tokens d) m₀ cell last more (omega arith) test₀ e in
+        woken-no (wakesOf (take 24576 m₀) tokens d) m₀ cell last more (omega arith) test₀ e in
         record {
           whole = inv .whole;
           inside = inv .inside;
@@ -85,7 +86,8 @@ module _ {m₀ : List ℕ} {tokens d last : ℕ} {m : List ℕ} {at cell : ℕ} 
           high = inv .high;
           room = rw rest at (inv .room);
           same = inv .same;
-          left = rw rest at (inv .left) }
+          left = rw rest at (inv .left);
+        }
 
   module _ (inv : Closing m₀ tokens d last m at cell) (more : cell < last) (test : r ≡ isYes (wakesOf (take 24576 m) tokens d (getD m cell 0))) where
     closing-token : getD m cell 0 ≡ getD m₀ cell 0
@@ -97,7 +99,7 @@ module _ {m₀ : List ℕ} {tokens d last : ℕ} {m : List ℕ} {at cell : ℕ} 
     pub close-yes : r ≡ true → Closing m₀ tokens d last m at (cell + 1)
     close-yes e =
         let rest : stayFrom m₀ tokens d last cell ≡ stayFrom m₀ tokens d last (cell + 1) =
-          staying-yes (wakesOf (take 24576 m₀) tokens d) m₀ cell last more (omega arith) closing-test e in
+        staying-yes (wakesOf (take 24576 m₀) tokens d) m₀ cell last more (omega arith) closing-test e in
         record {
           whole = inv .whole;
           inside = inv .inside;
@@ -108,12 +110,13 @@ module _ {m₀ : List ℕ} {tokens d last : ℕ} {m : List ℕ} {at cell : ℕ} 
           same = inv .same;
           ahead = drop-more m₀ m cell (cell + 1) (inv .ahead) (omega arith);
           end = rw rest at (inv .end);
-          left = rw rest at (inv .left) }
+          left = rw rest at (inv .left);
+        }
 
     pub close-no : r ≡ false → Closing m₀ tokens d last (set m at (getD m cell 0)) (at + 1) (cell + 1)
     close-no e =
         let rest : stayFrom m₀ tokens d last cell ≡ getD m₀ cell 0 ∷ stayFrom m₀ tokens d last (cell + 1) =
-          staying-no (wakesOf (take 24576 m₀) tokens d) m₀ cell last more (omega arith) closing-test e in
+        staying-no (wakesOf (take 24576 m₀) tokens d) m₀ cell last more (omega arith) closing-test e in
         record {
           whole = inv .whole;
           inside = inv .inside;
@@ -124,11 +127,12 @@ module _ {m₀ : List ℕ} {tokens d last : ℕ} {m : List ℕ} {at cell : ℕ} 
           same = take-set-le 24576 m at (getD m cell 0) (inv .from) ∙ inv .same;
           ahead = drop-set-lt (cell + 1) m at (getD m cell 0) (omega arith) ∙ drop-more m₀ m cell (cell + 1) (inv .ahead) (omega arith);
           end = inv .end ∙ omega (arith, ap length rest);
-          left = sets-store m at (inv .left) rest closing-token }
+          left = sets-store m at (inv .left) rest closing-token;
+        }
 
 -- at the last cell nothing is left
 pub append-end : {m₀ : List ℕ} {tokens d last end : ℕ} {m : List ℕ} {at cell : ℕ} → Appending m₀ tokens d last end m at cell → last ≤ cell
-  → m ≡ sets m₀ end (wakeFrom m₀ tokens d last 24576)
+    → m ≡ sets m₀ end (wakeFrom m₀ tokens d last 24576)
 append-end {m₀} {tokens} {d} {last} {end} {m} {at} {cell} inv h =
     sets-none m at (inv .left) (woken-end (wakesOf (take 24576 m₀) tokens d) m₀ cell last (inv .upto) h)
 
@@ -174,4 +178,5 @@ module _ {m₀ : List ℕ} {from to : ℕ} {m : List ℕ} {cell : ℕ} (inv : Ma
           upto = omega arith;
           same = drop-set-lt 24576 m (20480 + u) 2 (omega arith) ∙ inv .same;
           below = marking-below .1;
-          left = marks-store m 2 (inv .left) (cells-next m₀ cell to more inside) (u-is ∙ marking-token) }
+          left = marks-store m 2 (inv .left) (cells-next m₀ cell to more inside) (u-is ∙ marking-token);
+        }

@@ -118,6 +118,6 @@ module _ (t : Tables) (d : ℕ) (m : List ℕ) where
       release-full h = rw (lt-leb (t .tokens) d inside, counted .0, ← counted .1, lt-leb (t .end + n) 4096 h) (refl, refl)
 
       pub release-moved : {r : Tables} {m′ : List ℕ} → t .end + n ≤ 4096 → r ≡ movedTables t d m → m′ ≡ movedMemory t d m
-        → Gives m (releaseOf t d m) (Released.Passed r) m′
+          → Gives m (releaseOf t d m) (Released.Passed r) m′
       unfolding releaseOf releasedOf releasedMemory
       release-moved h r-is m-is = rw (lt-leb (t .tokens) d inside, counted .0, ← counted .1, le-leb (t .end + n) 4096 h) (ap Released.Passed r-is, m-is)

@@ -35,7 +35,7 @@ first-within free n zero {i} {u} e h = let u-is : n ≡ u = cc in omega arith
 first-within free n (suc k) {i} {u} e h = go (free i) (first-within free n k {i = suc i} {u = u} (omega arith)) h
   where
     go : (x : Test) → (firstFree free n (range (suc i) k) ≡ Count.Known u → (suc i ≤ u) × (u ≤ n))
-      → byTest x Count.Unknown (Count.Known i) (firstFree free n (range (suc i) k)) ≡ Count.Known u → (i ≤ u) × (u ≤ n)
+        → byTest x Count.Unknown (Count.Known i) (firstFree free n (range (suc i) k)) ≡ Count.Known u → (i ≤ u) × (u ≤ n)
     go Test.Unsound later h = let z : _≡_ {A = ℕ} 0 1 = cc in omega arith
     go Test.Yes later h = let u-is : i ≡ u = cc in omega arith
     go Test.No later h = let w = later h in omega (arith, w .0, w .1)
@@ -56,7 +56,7 @@ module _ (t : Tables) (m : List ℕ) where
     upto-full h = rw (lt-leb (t .held + (upto - t .count)) 4096 h) (refl, refl)
 
     module _ {m′ : List ℕ} (room : t .held + (upto - t .count) ≤ 4096)
-      (deferred : m′ ≡ marks (sets m (24576 + t .held) (span (t .count) upto)) 1 (span (t .count) upto)) where
+        (deferred : m′ ≡ marks (sets m (24576 + t .held) (span (t .count) upto)) 1 (span (t .count) upto)) where
       pub upto-took : upto < t .tokens → Gives m (takeUpto t m (Count.Known upto)) (Taken.Took upto (withCount t upto (upto + 1))) m′
       unfolding takeUpto takenOf takenMemory deferredUpto
       upto-took h = rw (le-leb (t .held + (upto - t .count)) 4096 room, lt-ltb upto (t .tokens) h) (refl, deferred)
@@ -82,7 +82,7 @@ module _ (t : Tables) (m : List ℕ) where
     take-first h g = rw (lt-ltb (t .first) (t .end) h) g
 
     pub take-new : {x y : Count} → t .end ≤ t .first → x ≡ findOf (take 24576 m) (t .tokens) (t .count) → x ≡ y
-      → Gives m (takeUpto t m y) r m′ → Gives m (takeOf t m) r m′
+        → Gives m (takeUpto t m y) r m′ → Gives m (takeOf t m) r m′
     unfolding takeOf
     take-new h e y-is g = rw (le-ltb (t .first) (t .end) h, ← e, y-is) g
 

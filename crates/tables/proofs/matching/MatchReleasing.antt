@@ -27,7 +27,7 @@ use Rattle.tables.proofs.matching.RuleReleasing.{finished, woken-are, s
 
 -- the memory after some tokens joined the ready queue, others closed up, and a token finished
 module _ (m : List ℕ) (whole : 32768 ≤ length m) (end held d : ℕ) (woken staying : List ℕ)
-  (room : end + length woken ≤ 4096) (short : length staying ≤ held) (most : held ≤ 4096) (low : Below 4096 woken) (inside : d < 4096) where
+    (room : end + length woken ≤ 4096) (short : length staying ≤ held) (most : held ≤ 4096) (low : Below 4096 woken) (inside : d < 4096) where
   queued : List ℕ
   queued = sets m (28672 + end) woken
 
@@ -70,9 +70,9 @@ module _ (m : List ℕ) (whole : 32768 ≤ length m) (end held d : ℕ) (woken s
   unfolding moved readied
   moved-standing =
       fun-ext (λ n.
-        standing-set readied (rw readied-length whole) d 3 n inside
-        ∙ ap (λ s. if (eqb d n) 3 s)
-          (standing-marks cleared 2 woken (rw cleared-length whole) low n ∙ ap (λ l. if (has woken n) 2 (standingOf l n)) cleared-facts))
+      standing-set readied (rw readied-length whole) d 3 n inside
+      ∙ ap (λ s. if (eqb d n) 3 s)
+      (standing-marks cleared 2 woken (rw cleared-length whole) low n ∙ ap (λ l. if (has woken n) 2 (standingOf l n)) cleared-facts))
 
   moved-records : take 20480 (take 24576 moved) ≡ take 20480 (take 24576 m)
   unfolding moved readied
@@ -98,9 +98,9 @@ module _ (m : List ℕ) (whole : 32768 ≤ length m) (end held d : ℕ) (woken s
   unfolding cleared closed queued
   moved-queue first h =
       let same : drop 28672 moved ≡ drop 28672 queued =
-        drop-more cleared moved 24576 28672 moved-tables (omega arith)
-        ∙ drop-sets (replicate (held - length staying) 0) closed (24576 + length staying) 28672 (omega (arith, length-replicate {A = ℕ} (held - length staying) 0))
-        ∙ drop-sets staying queued 24576 28672 (omega arith) in
+      drop-more cleared moved 24576 28672 moved-tables (omega arith)
+      ∙ drop-sets (replicate (held - length staying) 0) closed (24576 + length staying) 28672 (omega (arith, length-replicate {A = ℕ} (held - length staying) 0))
+      ∙ drop-sets staying queued 24576 28672 (omega arith) in
       let ends : 28672 + (end + length woken) ≡ 28672 + end + length woken = omega arith in
       slice-same queued moved 28672 (28672 + first) (28672 + (end + length woken)) same (omega arith) (omega arith) (omega (arith, queued-length)) (moved-length ∙ sym queued-length)
       ∙ (rw (← ends) at (slice-append woken m (28672 + first) (28672 + end) (omega arith) (omega arith)))
@@ -136,8 +136,11 @@ module _ (tokens : ℕ) (numbers : ℕ → List ℕ) (a : rules.Tables) (t : Tab
   releases : releaseOf t d m ≡ Passed (movedTables t d m, movedMemory t d m)
   unfolding releaseOf
   releases =
-      rw (lt-leb (t .tokens) d (omega (arith, finisher-low, p .size)), all-sound,
-        le-leb (t .end + length (wokenIn t d m)) 4096 (omega (arith, all-moved, p .room, p .range .count, p .range .tokens)))
+      rw (
+        lt-leb (t .tokens) d (omega (arith, finisher-low, p .size)),
+        all-sound,
+        le-leb (t .end + length (wokenIn t d m)) 4096 (omega (arith, all-moved, p .room, p .range .count, p .range .tokens)),
+      )
 
   woken-low : Below 4096 (wokenIn t d m)
   unfolding wokenOf
@@ -183,20 +186,23 @@ module _ (tokens : ℕ) (numbers : ℕ → List ℕ) (a : rules.Tables) (t : Tab
   after-standing =
       subst (λ s. Standing numbers (rules.release d a) s nobody)
       (sym (moved-standing m (p .whole) (t .end) (t .held) d (wokenIn t d m) (stayingIn t d m) room short (p .range .held) woken-low low
-        ∙ ap (finished (standingOf (take 24576 m)) d) woken-is))
+      ∙ ap (finished (standingOf (take 24576 m)) d) woken-is))
       (release-standing numbers (take 24576 m) tokens d (p .records) a (p .standing) count-within)
 
   pub release-match : (x : State) × (releaseOf t d m ≡ Passed x) × Match tokens numbers (rules.release d a) x nobody
   unfolding movedTables rules.release
-  release-match =
-      ((movedTables t d m, movedMemory t d m), releases,
-        record {
-          range = record { tokens = p .range .tokens; count = p .range .count; queue = omega (arith, p .range .queue); end = room; held = omega (arith, short, p .range .held) };
-          whole = rw long (p .whole);
-          size = p .size;
-          count = p .count;
-          room = omega (arith, all-moved, p .room);
-          queue = after-queue;
-          table = after-table;
-          records = after-records;
-          standing = after-standing })
+  release-match = (
+    (movedTables t d m, movedMemory t d m),
+    releases,
+    record {
+      range = record { tokens = p .range .tokens; count = p .range .count; queue = omega (arith, p .range .queue); end = room; held = omega (arith, short, p .range .held) };
+      whole = rw long (p .whole);
+      size = p .size;
+      count = p .count;
+      room = omega (arith, all-moved, p .room);
+      queue = after-queue;
+      table = after-table;
+      records = after-records;
+      standing = after-standing;
+    },
+  )

@@ -57,8 +57,8 @@ module _ (numbers : ℕ → List ℕ) (a : rules.Tables) (s : ℕ → ℕ) (n : 
   new-queued : (j : ℕ) → has rest j ≡ eqb (without j) 2
   unfolding without times
   new-queued j = by-test (eqb n j)
-    (λ o. rw o (times-none rest j (omega (arith, rw (e, o) at (p .once j)))))
-    (λ o. rw o (sym (rw (in-queue j, o)) ∙ p .queued j))
+      (λ o. rw o (times-none rest j (omega (arith, rw (e, o) at (p .once j)))))
+      (λ o. rw o (sym (rw (in-queue j, o)) ∙ p .queued j))
 
   ready-standing : Standing numbers (record { count = a .count; ready = rest; deferred = a .deferred }) without (only n)
   unfolding without
@@ -70,19 +70,20 @@ module _ (numbers : ℕ → List ℕ) (a : rules.Tables) (s : ℕ → ℕ) (n : 
         once = new-once;
         fresh = λ j l. by-test (eqb n j) (λ o. rw o) (λ o. rw o (p .fresh j l));
         settled = λ j l x y o. rw o (p .settled j l x (rw (in-queue j, o) y) refl);
-        outside = λ j o. (rw o, (let j-is : n ≡ j = eqb-true n j o in omega (arith, (rw e at (ready-low p)) .0))) }
+        outside = λ j o. (rw o, (let j-is : n ≡ j = eqb-true n j o in omega (arith, (rw e at (ready-low p)) .0)));
+      }
 
 module _ (tokens : ℕ) (numbers : ℕ → List ℕ) (a : rules.Tables) (t : Tables) (m : List ℕ) (p : Match tokens numbers a (t, m) nobody) where
   -- a ready token
   pub ready-match : (n : ℕ) (rest : List ℕ) → a .ready ≡ n ∷ rest
-    → TakenMatch tokens numbers (took n (record { count = a .count; ready = rest; deferred = a .deferred })) (takeOf t m)
+      → TakenMatch tokens numbers (took n (record { count = a .count; ready = rest; deferred = a .deferred })) (takeOf t m)
   unfolding takeOf takeReady without
   ready-match n rest e =
       let long : length (slice (28672 + t .first) (28672 + t .end) m) ≡ (28672 + t .end) - (28672 + t .first) =
-        length-slice (28672 + t .first) (28672 + t .end) m (omega (arith, p .range .end, p .whole)) in
+      length-slice (28672 + t .first) (28672 + t .end) m (omega (arith, p .range .end, p .whole)) in
       let some : t .first < t .end = omega (arith, long, ap length (p .queue ∙ e)) in
       let cells : getD m (28672 + t .first) 0 ∷ slice (suc (28672 + t .first)) (28672 + t .end) m ≡ n ∷ rest =
-        sym (slice-cons (28672 + t .first) (28672 + t .end) m 0 (omega arith) (omega (arith, p .range .end, p .whole))) ∙ p .queue ∙ e in
+      sym (slice-cons (28672 + t .first) (28672 + t .end) m 0 (omega arith) (omega (arith, p .range .end, p .whole))) ∙ p .queue ∙ e in
       let token-is : getD m (28672 + t .first) 0 ≡ n = cc in
       let rest-is : slice (suc (28672 + t .first)) (28672 + t .end) m ≡ rest = cc in
       let low : n < a .count = (rw e at (ready-low (p .standing))) .0 in
@@ -91,9 +92,9 @@ module _ (tokens : ℕ) (numbers : ℕ → List ℕ) (a : rules.Tables) (t : Tab
       let long : length cleared ≡ length m = length-set m (20480 + n) 0 in
       let tables : drop 24576 cleared ≡ drop 24576 m = drop-set-lt 24576 m (20480 + n) 0 (omega arith) in
       let standing : standingOf (take 24576 cleared) ≡ without numbers a (standingOf (take 24576 m)) n rest e (p .standing) =
-        fun-ext (λ j. standing-set m (p .whole) n 0 j small) in
-      let next : suc (28672 + t .first) ≡ 28672 + (t .first + 1) = omega arith in
-      ((withoutFirst t, cleared),
+      fun-ext (λ j. standing-set m (p .whole) n 0 j small) in
+      let next : suc (28672 + t .first) ≡ 28672 + (t .first + 1) = omega arith in (
+        (withoutFirst t, cleared),
         rw (lt-ltb (t .first) (t .end) some, token-is, lt-ltb n (t .tokens) (omega (arith, p .range .count, p .count))),
         record {
           range = record { tokens = p .range .tokens; count = p .range .count; queue = omega arith; end = p .range .end; held = p .range .held };
@@ -102,20 +103,22 @@ module _ (tokens : ℕ) (numbers : ℕ → List ℕ) (a : rules.Tables) (t : Tab
           count = p .count;
           room = p .room;
           queue =
-            slice-same m cleared 24576 (28672 + (t .first + 1)) (28672 + t .end) tables (omega arith) (omega arith) (omega (arith, p .range .end, p .whole)) long
-            ∙ (rw next at rest-is);
+              slice-same m cleared 24576 (28672 + (t .first + 1)) (28672 + t .end) tables (omega arith) (omega arith) (omega (arith, p .range .end, p .whole)) long
+              ∙ (rw next at rest-is);
           table =
-            slice-same m cleared 24576 24576 (24576 + t .held) tables (omega arith) (omega arith) (omega (arith, p .range .held, p .whole)) long ∙ p .table;
+              slice-same m cleared 24576 24576 (24576 + t .held) tables (omega arith) (omega arith) (omega (arith, p .range .held, p .whole)) long ∙ p .table;
           records = λ j l.
-            recorded-same (take 24576 m) (take 24576 cleared)
-            (take-take 20480 24576 cleared (omega arith) ∙ take-set-le 20480 m (20480 + n) 0 (omega arith) ∙ sym (take-take 20480 24576 m (omega arith)))
-            j (omega (arith, p .range .tokens, p .size)) (omega (arith, facts-length m (p .whole))) (omega (arith, facts-length cleared (rw long (p .whole))))
-            (p .records j l);
-          standing = rw standing (ready-standing numbers a (standingOf (take 24576 m)) n rest e (p .standing)) })
+              recorded-same (take 24576 m) (take 24576 cleared)
+              (take-take 20480 24576 cleared (omega arith) ∙ take-set-le 20480 m (20480 + n) 0 (omega arith) ∙ sym (take-take 20480 24576 m (omega arith)))
+              j (omega (arith, p .range .tokens, p .size)) (omega (arith, facts-length m (p .whole))) (omega (arith, facts-length cleared (rw long (p .whole))))
+              (p .records j l);
+          standing = rw standing (ready-standing numbers a (standingOf (take 24576 m)) n rest e (p .standing));
+        },
+      )
 
   -- with no token ready, k tokens are deferred
   module _ (k count : ℕ) (out : ℕ → Bool) (past : a .count + k ≤ count) (inside : count ≤ tokens)
-    (after-standing : Standing numbers (after numbers (take 24576 m) (a .count) a k count) (marked (standingOf (take 24576 m)) 1 (range (a .count) k)) out) where
+      (after-standing : Standing numbers (after numbers (take 24576 m) (a .count) a k count) (marked (standingOf (take 24576 m)) 1 (range (a .count) k)) out) where
     passed : List ℕ
     passed = range (a .count) k
 
@@ -187,15 +190,17 @@ module _ (tokens : ℕ) (numbers : ℕ → List ℕ) (a : rules.Tables) (t : Tab
           queue = slice-same m left 28672 (28672 + t .first) (28672 + t .end) queue-left (omega arith) (omega (arith, p .range .queue)) (omega (arith, p .range .end, p .whole)) left-length ∙ p .queue;
           table = rw (new, tokens-after numbers (take 24576 m) (a .count) (a .deferred) (range (a .count) k)) table-left;
           records = λ n l. recorded-same (take 24576 m) (take 24576 left) records-left n (omega (arith, p .range .tokens, p .size))
-            (omega (arith, facts-length m (p .whole))) (omega (arith, facts-length left (rw left-length (p .whole)))) (p .records n l);
-          standing = rw standing-left after-standing }
+              (omega (arith, facts-length m (p .whole))) (omega (arith, facts-length left (rw left-length (p .whole)))) (p .records n l);
+          standing = rw standing-left after-standing;
+        }
 
   module _ (self : (n : ℕ) → has (numbers n) n ≡ false) (none-ready : a .ready ≡ []) where
     nothing-passed : Passing (take 24576 m) (a .count) a
     nothing-passed =
         record {
           from = omega arith;
-          held = λ n. p .standing .marked n ∙ sym (ap (λ b. if (eqb (standingOf (take 24576 m) n) 1) true b) (none n) ∙ if-eta (eqb (standingOf (take 24576 m) n) 1)) }
+          held = λ n. p .standing .marked n ∙ sym (ap (λ b. if (eqb (standingOf (take 24576 m) n) 1) true b) (none n) ∙ if-eta (eqb (standingOf (take 24576 m) n) 1));
+        }
       where
         none : (n : ℕ) → if (leb (a .count) n) (ltb n (a .count)) false ≡ false
         none n = by-test (leb (a .count) n) (λ e. rw (e, le-ltb n (a .count) (leb-true (a .count) n e))) (λ e. rw e)
@@ -236,29 +241,31 @@ module _ (tokens : ℕ) (numbers : ℕ → List ℕ) (a : rules.Tables) (t : Tab
     last-within = omega (arith, together .1, p .range .count, p .count, p .size)
 
     took-match : ltb (a .count + k) tokens ≡ true
-      → TakenMatch tokens numbers (took (a .count + k) (after numbers (take 24576 m) (a .count) a k (suc (a .count + k)))) (takeOf t m)
+        → TakenMatch tokens numbers (took (a .count + k) (after numbers (take 24576 m) (a .count) a k (suc (a .count + k)))) (takeOf t m)
     unfolding takeUpto left entered passed k
     took-match e =
         let u : ℕ = a .count + together .0 in
         let less : u < tokens = ltb-true u tokens e in
         let standing =
-          new-standing numbers self (take 24576 m) a (p .standing) none-ready (together .0) (suc u) (only u) (omega arith) (together .4)
-          (λ n l o. omega (arith, eqb-false u n o)) (λ n o. let n-is : u ≡ n = eqb-true u n o in omega arith) in
-        ((withCount t u (u + 1), marks (sets m (24576 + t .held) (range (a .count) (together .0))) 1 (range (a .count) (together .0))),
+        new-standing numbers self (take 24576 m) a (p .standing) none-ready (together .0) (suc u) (only u) (omega arith) (together .4)
+        (λ n l o. omega (arith, eqb-false u n o)) (λ n o. let n-is : u ≡ n = eqb-true u n o in omega arith) in (
+          (withCount t u (u + 1), marks (sets m (24576 + t .held) (range (a .count) (together .0))) 1 (range (a .count) (together .0))),
           takes ∙ rw (room-left, lt-ltb u (t .tokens) (omega (arith, p .size)), memory-is),
-          deferred-match (together .0) (suc u) (only u) (omega arith) (omega arith) standing (u + 1) (omega arith))
+          deferred-match (together .0) (suc u) (only u) (omega arith) (omega arith) standing (u + 1) (omega arith),
+        )
 
     none-match : ltb (a .count + k) tokens ≡ false
-      → TakenMatch tokens numbers (none (after numbers (take 24576 m) (a .count) a k (a .count + k))) (takeOf t m)
+        → TakenMatch tokens numbers (none (after numbers (take 24576 m) (a .count) a k (a .count + k))) (takeOf t m)
     unfolding takeUpto left entered passed k
     none-match e =
         let u : ℕ = a .count + together .0 in
         let standing =
-          new-standing numbers self (take 24576 m) a (p .standing) none-ready (together .0) u nobody (omega arith) (together .4)
-          (λ n l o. l) (λ n o. absurd (true≢false (sym o))) in
-        ((withCount t u u, marks (sets m (24576 + t .held) (range (a .count) (together .0))) 1 (range (a .count) (together .0))),
+        new-standing numbers self (take 24576 m) a (p .standing) none-ready (together .0) u nobody (omega arith) (together .4)
+        (λ n l o. l) (λ n o. absurd (true≢false (sym o))) in (
+          (withCount t u u, marks (sets m (24576 + t .held) (range (a .count) (together .0))) 1 (range (a .count) (together .0))),
           takes ∙ rw (room-left, le-ltb u (t .tokens) (omega (arith, p .size, ltb-false u tokens e)), memory-is),
-          deferred-match (together .0) u nobody (omega arith) last-within standing u refl)
+          deferred-match (together .0) u nobody (omega arith) last-within standing u refl,
+        )
 
     pub new-match : TakenMatch tokens numbers (takeNew numbers (tokens - a .count) a) (takeOf t m)
     unfolding k

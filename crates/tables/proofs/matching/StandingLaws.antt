@@ -23,8 +23,8 @@ module _ {numbers : ℕ → List ℕ} {a : rules.Tables} {standing : ℕ → ℕ
   -- a token with a standing other than 0 was taken as new
   taken : {v : ℕ} (n : ℕ) → 0 < v → standing n ≡ v → n < a .count
   taken n some is = by-test (leb (a .count) n)
-    (λ e. absurd (omega (arith, s .fresh n (leb-true (a .count) n e))))
-    (λ e. leb-false (a .count) n e)
+      (λ e. absurd (omega (arith, s .fresh n (leb-true (a .count) n e))))
+      (λ e. leb-false (a .count) n e)
 
   pub table-low : Below (a .count) (tokensOf (a .deferred))
   table-low = below-all (a .count) (tokensOf (a .deferred)) (λ n h. taken n (omega arith) (eqb-true (standing n) 1 (sym (s .marked n) ∙ h)))

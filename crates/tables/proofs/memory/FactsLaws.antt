@@ -117,7 +117,7 @@ module _ (f : List ℕ) (t : ℕ) {r : Numbers} (numbers-are : r ≡ numbersOf f
   free-bad count e = rw (← numbers-are, e)
 
   pub free-part : (count : ℕ) {a b : ℕ} {x v : Bool} → r ≡ Numbers.Part a b → x ≡ anyOf f (Question.Due count t) (take (b - a) (drop a f))
-    → x ≡ v → if v Test.No Test.Yes ≡ freeOf f count t
+      → x ≡ v → if v Test.No Test.Yes ≡ freeOf f count t
   unfolding freeOf ofNumbers
   free-part count e h v-is = rw (← numbers-are, e, ← h, v-is)
 

@@ -25,14 +25,16 @@ sound-range t m e =
     let b = and-true (leb (t .tokens) 4096) (a .1) in
     let c = and-true (leb (t .count) (t .tokens)) (b .1) in
     let d = and-true (leb (t .first) (t .end)) (c .1) in
-    let f = and-true (leb (t .end) 4096) (d .1) in
-    (record {
-      tokens = leb-true (t .tokens) 4096 (b .0);
-      count = leb-true (t .count) (t .tokens) (c .0);
-      queue = leb-true (t .first) (t .end) (d .0);
-      end = leb-true (t .end) 4096 (f .0);
-      held = leb-true (t .held) 4096 (and-true (leb (t .held) 4096) (f .1) .0) },
-    leb-true 32768 (length m) (a .0))
+    let f = and-true (leb (t .end) 4096) (d .1) in (
+      record {
+        tokens = leb-true (t .tokens) 4096 (b .0);
+        count = leb-true (t .count) (t .tokens) (c .0);
+        queue = leb-true (t .first) (t .end) (d .0);
+        end = leb-true (t .end) 4096 (f .0);
+        held = leb-true (t .held) 4096 (and-true (leb (t .held) 4096) (f .1) .0);
+      },
+      leb-true 32768 (length m) (a .0),
+    )
 
 -- where all the other numbers are within their ranges, the last decides
 pub sound-last : (t : Tables) (m : List ℕ) → 32768 ≤ length m → t .tokens ≤ 4096 → t .count ≤ t .tokens → t .first ≤ t .end → t .end ≤ 4096 → leb (t .held) 4096 ≡ soundOf (t, m)
@@ -45,5 +47,11 @@ sound-last t m a b c d e =
 pub range-sound : (t : Tables) (m : List ℕ) → InRange t → 32768 ≤ length m → soundOf (t, m) ≡ true
 unfolding soundOf
 range-sound t m ok whole =
-    rw (le-leb 32768 (length m) whole, le-leb (t .tokens) 4096 (ok .tokens), le-leb (t .count) (t .tokens) (ok .count),
-      le-leb (t .first) (t .end) (ok .queue), le-leb (t .end) 4096 (ok .end), le-leb (t .held) 4096 (ok .held))
+    rw (
+      le-leb 32768 (length m) whole,
+      le-leb (t .tokens) 4096 (ok .tokens),
+      le-leb (t .count) (t .tokens) (ok .count),
+      le-leb (t .first) (t .end) (ok .queue),
+      le-leb (t .end) 4096 (ok .end),
+      le-leb (t .held) 4096 (ok .held),
+    )

@@ -77,27 +77,27 @@ module _ (r : List ℕ) where
       deferred-beyond =
           ap (λ (l : List ℕ). marks l 1 (span (t .count) upto)) (sets-beyond (span (t .count) upto) m (24576 + t .held) (omega (arith, length-range (t .count) (upto - t .count))))
           ∙ marks-beyond 1 (span (t .count) upto) (sets m (24576 + t .held) (span (t .count) upto))
-            (below-range 4096 (t .count) (upto - t .count) (omega (arith, ok .tokens, ok .count))) (rw length-sets whole)
+          (below-range 4096 (t .count) (upto - t .count) (omega (arith, ok .tokens, ok .count))) (rw length-sets whole)
 
     upto-beyond : (c : Count) → findOf (factsOf m) (t .tokens) (t .count) ≡ c → takeUpto t (m ++ r) c ≡ mapTaken (beyond r) (takeUpto t m c)
     unfolding takeUpto
     upto-beyond Count.Unknown found = refl
     upto-beyond (Count.Known upto) found = by-test (leb (t .held + (upto - t .count)) 4096)
-      (λ room.
+        (λ room.
         let high = found-within (factsOf m) (t .tokens) (t .count) (ok .count) (sym found) refl in
         rw (room, deferred-beyond upto (high .1) (leb-true _ _ room)) (by-test (ltb upto (t .tokens)) (λ e. rw e) (λ e. rw e)))
-      (λ full. rw full)
+        (λ full. rw full)
 
     take-beyond : takeOf t (m ++ r) ≡ mapTaken (beyond r) (takeOf t m)
     unfolding takeOf takeReady
     take-beyond = by-test (ltb (t .first) (t .end))
-      (λ e.
+        (λ e.
         let some : t .first < t .end = ltb-true _ _ e in
         rw (e, List·getD-append m r 0 (28672 + t .first) (omega (arith, ok .end)))
         (by-test (ltb (oldestOf t m) (t .tokens))
-          (λ low. rw (low, set-append-left m r (20480 + oldestOf t m) 0 (omega (arith, ltb-true (oldestOf t m) (t .tokens) low, ok .tokens))))
-          (λ high. rw high)))
-      (λ e. rw (e, facts-beyond) (upto-beyond (findOf (factsOf m) (t .tokens) (t .count)) refl))
+        (λ low. rw (low, set-append-left m r (20480 + oldestOf t m) 0 (omega (arith, ltb-true (oldestOf t m) (t .tokens) low, ok .tokens))))
+        (λ high. rw high)))
+        (λ e. rw (e, facts-beyond) (upto-beyond (findOf (factsOf m) (t .tokens) (t .count)) refl))
 
     -- a token's finish
     woken-same : (d : ℕ) → wokenIn t d (m ++ r) ≡ wokenIn t d m
@@ -119,12 +119,12 @@ module _ (r : List ℕ) where
     release-beyond : (d : ℕ) → releaseOf t d (m ++ r) ≡ mapReleased (beyond r) (releaseOf t d m)
     unfolding releaseOf movedTables
     release-beyond d = by-test (leb (t .tokens) d)
-      (λ e. rw e)
-      (λ e. rw (e, unsound-same d, woken-same d, staying-same d) (by-test (unsoundIn t d m)
+        (λ e. rw e)
+        (λ e. rw (e, unsound-same d, woken-same d, staying-same d) (by-test (unsoundIn t d m)
         (λ u. rw u)
         (λ u. rw u (by-test (leb (t .end + length (wokenIn t d m)) 4096)
-          (λ room. rw (room, moved-beyond d (leb-false _ _ e) (leb-true _ _ room)))
-          (λ full. rw full)))))
+        (λ room. rw (room, moved-beyond d (leb-false _ _ e) (leb-true _ _ room)))
+        (λ full. rw full)))))
 
     -- the public calls
     sound-beyond : soundOf (t, m ++ r) ≡ true

@@ -93,8 +93,8 @@ module _ (tokens : ℕ) (numbers : ℕ → List ℕ) (others : (n : ℕ) → has
       releases : (d : ℕ) (j : Joint tokens numbers) → (releaseJoint d j ≡ Broken → ⊥) → Passed (rules.release d (ruleSide j)) ≡ mapReleased ruleSide (releaseJoint d j)
       releases d (resting a x p) h = absurd (h refl)
       releases d (holding n a x p) h = by-test (eqb d n)
-        (λ e. rw (e, eqb-true d n e))
-        (λ e. absurd (h (rw e)))
+          (λ e. rw (e, eqb-true d n e))
+          (λ e. absurd (h (rw e)))
 
   -- the memory's side follows
   memory-takes : (r : rules.Taken) (o : Outcome State) (p : TakenMatch tokens numbers r o) → o ≡ mapTaken memorySide (joined r o p)
@@ -113,8 +113,8 @@ module _ (tokens : ℕ) (numbers : ℕ → List ℕ) (others : (n : ℕ) → has
       releases : (d : ℕ) (j : Joint tokens numbers) → (releaseJoint d j ≡ Broken → ⊥) → memorySource .release d (memorySide j) ≡ mapReleased memorySide (releaseJoint d j)
       releases d (resting a x p) h = absurd (h refl)
       releases d (holding n a x p) h = by-test (eqb d n)
-        (λ e. rw (e, eqb-true d n e) (safe-release n x (match-sound x p) ∙ release-match tokens numbers a (x .0) (x .1) n p .1))
-        (λ e. absurd (h (rw e)))
+          (λ e. rw (e, eqb-true d n e) (safe-release n x (match-sound x p) ∙ release-match tokens numbers a (x .0) (x .1) n p .1))
+          (λ e. absurd (h (rw e)))
 
       sounds : (j : Joint tokens numbers) → soundOf (memorySide j) ≡ true
       sounds (resting a x p) = match-sound x p
@@ -122,7 +122,7 @@ module _ (tokens : ℕ) (numbers : ℕ → List ℕ) (others : (n : ℕ) → has
 
   -- the outcome of the rules' side tells that of both
   both-none : {z : rules.Tables} (r : rules.Taken) (o : Outcome State) (p : TakenMatch tokens numbers r o) → offered r ≡ Nothing z →
-    (y : State) × (q : Match tokens numbers z y nobody) × (joined r o p ≡ Nothing (resting z y q))
+      (y : State) × (q : Match tokens numbers z y nobody) × (joined r o p ≡ Nothing (resting z y q))
   unfolding joined
   both-none {z} (none a) o p e =
       let a-is : a ≡ z = cc in
@@ -130,7 +130,7 @@ module _ (tokens : ℕ) (numbers : ℕ → List ℕ) (others : (n : ℕ) → has
   both-none (took n a) o p e = let z : _≡_ {A = ℕ} 0 1 = cc in absurd (omega arith)
 
   both-took : {n : ℕ} {b : rules.Tables} (r : rules.Taken) (o : Outcome State) (p : TakenMatch tokens numbers r o) → offered r ≡ Took n b →
-    (y : State) × (q : Match tokens numbers b y (only n)) × (joined r o p ≡ Took n (holding n b y q))
+      (y : State) × (q : Match tokens numbers b y (only n)) × (joined r o p ≡ Took n (holding n b y q))
   unfolding joined
   both-took (none a) o p e = let z : _≡_ {A = ℕ} 0 1 = cc in absurd (omega arith)
   both-took {n} {b} (took k a) o p e =
@@ -140,7 +140,7 @@ module _ (tokens : ℕ) (numbers : ℕ → List ℕ) (others : (n : ℕ) → has
       (subst (λ b. (y : State) × (q : Match tokens numbers b y (only k)) × (joined (took k a) o p ≡ Took k (holding k b y q))) a-is (p .0, p .2, refl))
 
   both-release : {b c : rules.Tables} (n : ℕ) (y : State) (p : Match tokens numbers b y (only n)) → rules.release n b ≡ c →
-    (x : State) × (q : Match tokens numbers c x nobody) × (releaseJoint n (holding n b y p) ≡ Passed (resting c x q))
+      (x : State) × (q : Match tokens numbers c x nobody) × (releaseJoint n (holding n b y p) ≡ Passed (resting c x q))
   unfolding releaseJoint
   both-release {b} n y p e =
       let r = release-match tokens numbers b (y .0) (y .1) n p in
@@ -149,7 +149,7 @@ module _ (tokens : ℕ) (numbers : ℕ → List ℕ) (others : (n : ℕ) → has
 
   -- what the rules' tables write down, both write down together
   pub joint-writes : {a z : rules.Tables} {ts : List ℕ} → Writes (plainSource tokens numbers) a ts z → (x : State) (p : Match tokens numbers a x nobody) →
-    (y : State) × (q : Match tokens numbers z y nobody) × Writes jointSource (resting a x p) ts (resting z y q)
+      (y : State) × (q : Match tokens numbers z y nobody) × Writes jointSource (resting a x p) ts (resting z y q)
   unfolding takeJoint
   joint-writes (close {x = a} s e s′) x p =
       let (y, q, is) = both-none (rules.take tokens numbers a) (takeOf (x .0) (x .1)) (take-match tokens numbers a (x .0) (x .1) p others) e in

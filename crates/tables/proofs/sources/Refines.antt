@@ -20,7 +20,7 @@ use Rattle.tables.proofs.sources.Joint.{memorySide, memory-follows, joi
 module _ (tokens : ℕ) (numbers : ℕ → List ℕ) where
   -- what the rules' tables write down, the tables in memory write down
   pub refines : ((n : ℕ) → has (numbers n) n ≡ false) → {a z : rules.Tables} {ts : List ℕ} → Writes (plainSource tokens numbers) a ts z
-    → (x : State) → Match tokens numbers a x nobody → (y : State) × Writes memorySource x ts y × Match tokens numbers z y nobody
+      → (x : State) → Match tokens numbers a x nobody → (y : State) × Writes memorySource x ts y × Match tokens numbers z y nobody
   unfolding memorySide
   refines self w x p =
       let (y, q, both) = joint-writes tokens numbers self w x p in
@@ -28,7 +28,7 @@ module _ (tokens : ℕ) (numbers : ℕ → List ℕ) where
 
   -- at opening, with good records and every standing 0, the memory stands for the opened tables of the rules
   module _ (m : List ℕ) (few : tokens ≤ 4096) (whole : 32768 ≤ length m)
-    (records : (n : ℕ) → n < tokens → Recorded (take 24576 m) n (numbers n)) (zeros : (n : ℕ) → standingOf (take 24576 m) n ≡ 0) where
+      (records : (n : ℕ) → n < tokens → Recorded (take 24576 m) n (numbers n)) (zeros : (n : ℕ) → standingOf (take 24576 m) n ≡ 0) where
     opened-standing : Standing numbers rules.opened (standingOf (take 24576 m)) nobody
     unfolding has times
     opened-standing =
@@ -39,7 +39,8 @@ module _ (tokens : ℕ) (numbers : ℕ → List ℕ) where
           once = λ n. omega arith;
           fresh = λ n l. zeros n;
           settled = λ n l x y o. absurd (omega arith);
-          outside = λ n o. absurd (true≢false (sym o)) }
+          outside = λ n o. absurd (true≢false (sym o));
+        }
 
     pub opened-match : Match tokens numbers rules.opened (openedTables tokens, m) nobody
     opened-match =
@@ -52,9 +53,10 @@ module _ (tokens : ℕ) (numbers : ℕ → List ℕ) where
           queue = slice-empty 28672 m;
           table = slice-empty 24576 m;
           records = records;
-          standing = opened-standing }
+          standing = opened-standing;
+        }
 
     -- so the whole sheet of the rules is written down from the opened memory
     pub opened-refines : ((n : ℕ) → has (numbers n) n ≡ false) → {z : rules.Tables} {ts : List ℕ} → Writes (plainSource tokens numbers) rules.opened ts z
-      → (y : State) × Writes memorySource (openedTables tokens, m) ts y × Match tokens numbers z y nobody
+        → (y : State) × Writes memorySource (openedTables tokens, m) ts y × Match tokens numbers z y nobody
     opened-refines self w = refines self w (openedTables tokens, m) opened-match

@@ -26,8 +26,8 @@ module _ (n : ℕ) where
     unfolding takeUpto deferredUpto
     upto-length Count.Unknown = tt
     upto-length (Count.Known upto) = by-test (leb (t .held + (upto - t .count)) 4096)
-      (λ room. rw room (by-test (ltb upto (t .tokens)) (λ e. rw e deferred) (λ e. rw e deferred)))
-      (λ full. rw full tt)
+        (λ room. rw room (by-test (ltb upto (t .tokens)) (λ e. rw e deferred) (λ e. rw e deferred)))
+        (λ full. rw full tt)
       where
         deferred : length (deferredUpto t upto m) ≡ n
         deferred = length-marks _ 1 _ ∙ simp length-sets long
@@ -35,8 +35,8 @@ module _ (n : ℕ) where
     take-length : OnTaken Long (takeOf t m)
     unfolding takeOf takeReady
     take-length = by-test (ltb (t .first) (t .end))
-      (λ e. rw e (by-test (ltb (oldestOf t m) (t .tokens)) (λ l. rw l (simp length-set long)) (λ l. rw l tt)))
-      (λ e. rw e (upto-length (findOf (factsOf m) (t .tokens) (t .count))))
+        (λ e. rw e (by-test (ltb (oldestOf t m) (t .tokens)) (λ l. rw l (simp length-set long)) (λ l. rw l tt)))
+        (λ e. rw e (upto-length (findOf (factsOf m) (t .tokens) (t .count))))
 
     moved-length : (d : ℕ) → length (movedMemory t d m) ≡ n
     unfolding movedMemory
@@ -45,8 +45,8 @@ module _ (n : ℕ) where
     release-length : (d : ℕ) → OnReleased Long (releaseOf t d m)
     unfolding releaseOf
     release-length d = by-test (leb (t .tokens) d)
-      (λ e. rw e tt)
-      (λ e. rw e (by-test (unsoundIn t d m)
+        (λ e. rw e tt)
+        (λ e. rw e (by-test (unsoundIn t d m)
         (λ u. rw u tt)
         (λ u. rw u (by-test (leb (t .end + length (wokenIn t d m)) 4096) (λ room. rw room (moved-length d)) (λ full. rw full tt)))))
 
