@@ -4,7 +4,7 @@ use mathlib.Core.List.{List}
 use Prim.Native.Nat.{ℕ, _+_, _-_}
 use lib.Dec.{leb}
 use lib.ListN.{length, set, replicate}
-use lib.Seq.{sets}
+use lib.Seq.{sets, slice}
 use Rattle.rules.specs.Lists.{must, mustNot, keep, any}
 use Rattle.rules.specs.Sources.{Released as Outcome, Broken, Passed}
 use Rattle.tables.specs.declared.Tables.{Tables}
@@ -34,12 +34,19 @@ tallyOf wakes n l =
     mustNot (any (λ t. isUnsound (wakes t)) l) Count.Unknown
     (Count.Known (n + length (wokenOf wakes l)))
 
--- the tokens of the deferred table that wake at a token's finish, those that stay, and whether a record there is bad
+-- the tokens in the cells from one up to another that wake at a token's finish, and those that stay
+abbrev pub wokenFrom : List ℕ → ℕ → ℕ → ℕ → ℕ → List ℕ
+wokenFrom m tokens d cell last = wokenOf (wakesOf (factsOf m) tokens d) (slice cell last m)
+
+abbrev pub stayingFrom : List ℕ → ℕ → ℕ → ℕ → ℕ → List ℕ
+stayingFrom m tokens d cell last = stayingOf (wakesOf (factsOf m) tokens d) (slice cell last m)
+
+-- the same for the whole deferred table, and whether a record there is bad
 abbrev pub wokenIn : Tables → ℕ → List ℕ → List ℕ
-wokenIn t d m = wokenOf (wakesOf (factsOf m) (t .tokens) d) (tableOf t m)
+wokenIn t d m = wokenFrom m (t .tokens) d deferredAt (deferredAt + t .held)
 
 abbrev pub stayingIn : Tables → ℕ → List ℕ → List ℕ
-stayingIn t d m = stayingOf (wakesOf (factsOf m) (t .tokens) d) (tableOf t m)
+stayingIn t d m = stayingFrom m (t .tokens) d deferredAt (deferredAt + t .held)
 
 abbrev pub unsoundIn : Tables → ℕ → List ℕ → Bool
 unsoundIn t d m = any (λ n. isUnsound (wakesOf (factsOf m) (t .tokens) d n)) (tableOf t m)
@@ -49,14 +56,17 @@ unfoldable pub movedTables : Tables → ℕ → List ℕ → Tables
 movedTables t d m =
     record { tokens = t .tokens; count = t .count; first = t .first; end = t .end + length (wokenIn t d m); held = length (stayingIn t d m) }
 
--- The memory after it, by that as it was: the woken join the ready queue, the others close up, the freed cells become 0, and the woken and
--- the finished token have their new standings
+-- the memory after a finish: the woken join the ready queue at its end, the others close up, the freed cells become 0,
+-- and the woken and the finished token have their new standings
+abbrev pub movedBy : List ℕ → ℕ → ℕ → ℕ → List ℕ → List ℕ → List ℕ
+movedBy m end held d woken staying =
+    let queued : List ℕ = sets m (readyAt + end) woken in
+    let closed : List ℕ = sets queued deferredAt staying in
+    let cleared : List ℕ = sets closed (deferredAt + length staying) (replicate (held - length staying) 0) in
+    set (marks cleared readyMark woken) (standingAt + d) finishedMark
+
 unfoldable pub movedMemory : Tables → ℕ → List ℕ → List ℕ
-movedMemory t d m =
-    let queued : List ℕ = sets m (readyAt + t .end) (wokenIn t d m) in
-    let closed : List ℕ = sets queued deferredAt (stayingIn t d m) in
-    let cleared : List ℕ = sets closed (deferredAt + length (stayingIn t d m)) (replicate (t .held - length (stayingIn t d m)) 0) in
-    set (marks cleared readyMark (wokenIn t d m)) (standingAt + d) finishedMark
+movedMemory t d m = movedBy m (t .end) (t .held) d (wokenIn t d m) (stayingIn t d m)
 
 -- rule 4: "When a token finishes pipe 0, its waiters, in the order entered, lose that number."
 -- Broken where it is no token, where a record in the table is bad, or where the queue goes "past its range"

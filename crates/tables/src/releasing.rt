@@ -18,7 +18,8 @@ ghost use lib.Seq.{sets, slice};
 ghost use Rattle.tables.specs.Layout.{deferredAt, readyAt, lent, mostTokens, readyMark, factsOf};
 ghost use Rattle.tables.specs.Facts.{wakesOf};
 ghost use Rattle.tables.specs.State.{InRange, marks};
-ghost use Rattle.tables.specs.Releasing.{isYes, wokenOf, stayingOf, tallyOf, wokenIn, movedTables, movedMemory, releaseOf, releasedOf, releasedMemory};
+ghost use Rattle.tables.specs.Releasing.{isYes, wokenFrom, stayingFrom, tallyOf, wokenIn, movedTables, movedMemory, releaseOf, releasedOf};
+ghost use Rattle.tables.specs.Releasing.{releasedMemory};
 ghost use Rattle.rules.specs.Lists.{Below};
 
 // Whether a deferred token wakes.
@@ -59,8 +60,8 @@ fn count_woken(mem: &[u16], tokens: u16, past: u16, last: usize) -> Count
 fn append_woken(mem: &mut [u16], tokens: u16, past: u16, last: usize, end: usize)
     requires { ⌜ (lent ≤ length (now mem)) × (tokens ≤ mostTokens) ⌝ }
     requires { ⌜ (deferredAt ≤ last) × (last ≤ readyAt) ⌝ }
-    requires { ⌜ (readyAt ≤ end) × (end + length (wokenOf (wakesOf (factsOf (now mem)) tokens past) (slice deferredAt last (now mem))) ≤ lent) ⌝ }
-    ensures { λ _. ⌜ now (mem .exit) ≡ sets (now (mem .entry)) end (wokenOf (wakesOf (factsOf (now (mem .entry))) tokens past) (slice deferredAt last (now (mem .entry)))) ⌝ }
+    requires { ⌜ (readyAt ≤ end) × (end + length (wokenFrom (now mem) tokens past deferredAt last) ≤ lent) ⌝ }
+    ensures { λ _. ⌜ now (mem .exit) ≡ sets (now (mem .entry)) end (wokenFrom (now (mem .entry)) tokens past deferredAt last) ⌝ }
 {
     let mut at = end;
     let mut cell = DEFERRED;
@@ -80,8 +81,8 @@ fn append_woken(mem: &mut [u16], tokens: u16, past: u16, last: usize, end: usize
 fn close_up(mem: &mut [u16], tokens: u16, past: u16, last: usize) -> usize
     requires { ⌜ (lent ≤ length (now mem)) × (tokens ≤ mostTokens) ⌝ }
     requires { ⌜ (deferredAt ≤ last) × (last ≤ readyAt) ⌝ }
-    ensures end { λ r. ⌜ r ≡ deferredAt + length (stayingOf (wakesOf (factsOf (now (mem .entry))) tokens past) (slice deferredAt last (now (mem .entry)))) ⌝ }
-    ensures memory { λ _. ⌜ now (mem .exit) ≡ sets (now (mem .entry)) deferredAt (stayingOf (wakesOf (factsOf (now (mem .entry))) tokens past) (slice deferredAt last (now (mem .entry)))) ⌝ }
+    ensures end { λ r. ⌜ r ≡ deferredAt + length (stayingFrom (now (mem .entry)) tokens past deferredAt last) ⌝ }
+    ensures memory { λ _. ⌜ now (mem .exit) ≡ sets (now (mem .entry)) deferredAt (stayingFrom (now (mem .entry)) tokens past deferredAt last) ⌝ }
 {
     let mut at = DEFERRED;
     let mut cell = DEFERRED;

@@ -9,13 +9,12 @@ use borrow.Author.Tests.{leb-false}
 use lib.Dec.{leb}
 use lib.ListN.{length, set, take, drop, replicate, length-replicate}
 use lib.Seq.{sets, slice, length-sets, length-slice}
-use Rattle.rules.specs.Lists.{if, keep}
+use Rattle.rules.specs.Lists.{if, keep, Below}
 use Rattle.tables.specs.declared.Tables.{Tables}
 use Rattle.tables.specs.declared.Test.{Test}
 use Rattle.tables.specs.Facts.{wakesOf}
 use Rattle.tables.specs.State.{InRange, marks, tableOf}
 use Rattle.tables.specs.Releasing.{isYes, wokenOf, stayingOf, wokenIn, stayingIn, movedTables, movedMemory}
-use Rattle.rules.specs.Lists.{Below}
 use Rattle.tables.proofs.memory.Cells.{take-sets, drop-sets, slice-before, slice-from, slice-sets, sets-slice}
 use Rattle.rules.proofs.lists.Tests.{by-test}
 
@@ -58,11 +57,13 @@ wakes-below f tokens d t = go (leb tokens t) refl _
 module _ (t : Tables) (d : ℕ) (m : List ℕ) (ok : InRange t) (whole : 32768 ≤ length m) where
   pub staying-length : length (stayingIn t d m) ≤ t .held
   unfolding stayingOf
-  staying-length = omega (arith, keep-length (λ n. not (isYes (wakesOf (take 24576 m) (t .tokens) d n))) (tableOf t m), length-slice 24576 (24576 + t .held) m (omega arith))
+  staying-length = omega
+      (arith, keep-length (λ n. not (isYes (wakesOf (take 24576 m) (t .tokens) d n))) (tableOf t m), length-slice 24576 (24576 + t .held) m (omega arith))
 
   pub woken-below : Below 4096 (wokenIn t d m)
   unfolding wokenOf
-  woken-below = keep-below 4096 (λ n. isYes (wakesOf (take 24576 m) (t .tokens) d n)) (λ n h. omega (arith, wakes-below (take 24576 m) (t .tokens) d n h)) (tableOf t m)
+  woken-below = keep-below 4096 (λ n. isYes (wakesOf (take 24576 m) (t .tokens) d n))
+      (λ n h. omega (arith, wakes-below (take 24576 m) (t .tokens) d n h)) (tableOf t m)
 
   -- where no token wakes nothing moves, and the finished token has its new standing
   module _ (asleep : length (wokenIn t d m) ≡ 0) where

@@ -8,17 +8,10 @@ use lib.ListN.{length, getD, set, take, drop, length-set}
 use lib.Seq.{sets, slice, take-set-le, drop-set-lt}
 use Rattle.tables.specs.Facts.{wakesOf}
 use Rattle.tables.specs.State.{marks}
-use Rattle.tables.specs.Releasing.{isYes, wokenOf, stayingOf}
+use Rattle.tables.specs.Releasing.{isYes, wokenFrom, stayingFrom}
 use Rattle.rules.specs.Lists.{Below}
 use Rattle.tables.proofs.memory.Cells.{take-less, drop-more, cell-below, cell-from, sets-store, sets-none, marks-store, marks-none}
 use Rattle.tables.proofs.code.ReleasingLaws.{cells-next, cells-end, woken-yes, woken-no, woken-end, staying-yes, staying-no, staying-end, seen}
-
--- the tokens that wake, or stay, from a cell on, as the memory was at first
-abbrev pub wakeFrom : List ℕ → ℕ → ℕ → ℕ → ℕ → List ℕ
-wakeFrom m tokens d last cell = wokenOf (wakesOf (take 24576 m) tokens d) (slice cell last m)
-
-abbrev pub stayFrom : List ℕ → ℕ → ℕ → ℕ → ℕ → List ℕ
-stayFrom m tokens d last cell = stayingOf (wakesOf (take 24576 m) tokens d) (slice cell last m)
 
 -- appending to the ready queue: all below it is as at first, and what is left to append gives the whole
 pub record Appending (m₀ : List ℕ) (tokens d last end : ℕ) (m : List ℕ) (at cell : ℕ) : Type 0 where
@@ -28,9 +21,9 @@ pub record Appending (m₀ : List ℕ) (tokens d last end : ℕ) (m : List ℕ) 
   pub from : 24576 ≤ cell
   pub upto : cell ≤ last
   pub high : 28672 ≤ at
-  pub room : at + length (wakeFrom m₀ tokens d last cell) ≤ 32768
+  pub room : at + length (wokenFrom m₀ tokens d cell last) ≤ 32768
   pub same : take 28672 m ≡ take 28672 m₀
-  pub left : sets m₀ end (wakeFrom m₀ tokens d last 24576) ≡ sets m at (wakeFrom m₀ tokens d last cell)
+  pub left : sets m₀ end (wokenFrom m₀ tokens d 24576 last) ≡ sets m at (wokenFrom m₀ tokens d cell last)
 
 -- closing up the deferred table: the facts and the cells not yet read are as at first
 pub record Closing (m₀ : List ℕ) (tokens d last : ℕ) (m : List ℕ) (at cell : ℕ) : Type 0 where
@@ -42,18 +35,19 @@ pub record Closing (m₀ : List ℕ) (tokens d last : ℕ) (m : List ℕ) (at ce
   pub upto : cell ≤ last
   pub same : take 24576 m ≡ take 24576 m₀
   pub ahead : drop cell m ≡ drop cell m₀
-  pub end : 24576 + length (stayFrom m₀ tokens d last 24576) ≡ at + length (stayFrom m₀ tokens d last cell)
-  pub left : sets m₀ 24576 (stayFrom m₀ tokens d last 24576) ≡ sets m at (stayFrom m₀ tokens d last cell)
+  pub end : 24576 + length (stayingFrom m₀ tokens d 24576 last) ≡ at + length (stayingFrom m₀ tokens d cell last)
+  pub left : sets m₀ 24576 (stayingFrom m₀ tokens d 24576 last) ≡ sets m at (stayingFrom m₀ tokens d cell last)
 
 module _ {m₀ : List ℕ} {tokens d last : ℕ} {m : List ℕ} {at cell : ℕ} {r : Bool} where
-  module _ {end : ℕ} (inv : Appending m₀ tokens d last end m at cell) (more : cell < last) (test : r ≡ isYes (wakesOf (take 24576 m) tokens d (getD m cell 0))) where
+  module _ {end : ℕ} (inv : Appending m₀ tokens d last end m at cell) (more : cell < last)
+      (test : r ≡ isYes (wakesOf (take 24576 m) tokens d (getD m cell 0))) where
     token-is : getD m cell 0 ≡ getD m₀ cell 0
     token-is = cell-below m₀ m 28672 cell (inv .same) (omega arith)
 
     test₀ : r ≡ isYes (wakesOf (take 24576 m₀) tokens d (getD m₀ cell 0))
     test₀ = seen tokens d (take-less m₀ m 28672 24576 (inv .same) (omega arith)) token-is test
 
-    first-wakes : r ≡ true → wakeFrom m₀ tokens d last cell ≡ getD m₀ cell 0 ∷ wakeFrom m₀ tokens d last (cell + 1)
+    first-wakes : r ≡ true → wokenFrom m₀ tokens d cell last ≡ getD m₀ cell 0 ∷ wokenFrom m₀ tokens d (cell + 1) last
     first-wakes e = woken-yes (wakesOf (take 24576 m₀) tokens d) m₀ cell last more (omega arith) test₀ e
 
     pub append-room : r ≡ true → at < 32768
@@ -75,7 +69,7 @@ module _ {m₀ : List ℕ} {tokens d last : ℕ} {m : List ℕ} {at cell : ℕ} 
 
     pub append-no : r ≡ false → Appending m₀ tokens d last end m at (cell + 1)
     append-no e =
-        let rest : wakeFrom m₀ tokens d last cell ≡ wakeFrom m₀ tokens d last (cell + 1) =
+        let rest : wokenFrom m₀ tokens d cell last ≡ wokenFrom m₀ tokens d (cell + 1) last =
         woken-no (wakesOf (take 24576 m₀) tokens d) m₀ cell last more (omega arith) test₀ e in
         record {
           whole = inv .whole;
@@ -98,7 +92,7 @@ module _ {m₀ : List ℕ} {tokens d last : ℕ} {m : List ℕ} {at cell : ℕ} 
 
     pub close-yes : r ≡ true → Closing m₀ tokens d last m at (cell + 1)
     close-yes e =
-        let rest : stayFrom m₀ tokens d last cell ≡ stayFrom m₀ tokens d last (cell + 1) =
+        let rest : stayingFrom m₀ tokens d cell last ≡ stayingFrom m₀ tokens d (cell + 1) last =
         staying-yes (wakesOf (take 24576 m₀) tokens d) m₀ cell last more (omega arith) closing-test e in
         record {
           whole = inv .whole;
@@ -115,7 +109,7 @@ module _ {m₀ : List ℕ} {tokens d last : ℕ} {m : List ℕ} {at cell : ℕ} 
 
     pub close-no : r ≡ false → Closing m₀ tokens d last (set m at (getD m cell 0)) (at + 1) (cell + 1)
     close-no e =
-        let rest : stayFrom m₀ tokens d last cell ≡ getD m₀ cell 0 ∷ stayFrom m₀ tokens d last (cell + 1) =
+        let rest : stayingFrom m₀ tokens d cell last ≡ getD m₀ cell 0 ∷ stayingFrom m₀ tokens d (cell + 1) last =
         staying-no (wakesOf (take 24576 m₀) tokens d) m₀ cell last more (omega arith) closing-test e in
         record {
           whole = inv .whole;
@@ -132,18 +126,18 @@ module _ {m₀ : List ℕ} {tokens d last : ℕ} {m : List ℕ} {at cell : ℕ} 
 
 -- at the last cell nothing is left
 pub append-end : {m₀ : List ℕ} {tokens d last end : ℕ} {m : List ℕ} {at cell : ℕ} → Appending m₀ tokens d last end m at cell → last ≤ cell
-    → m ≡ sets m₀ end (wakeFrom m₀ tokens d last 24576)
+    → m ≡ sets m₀ end (wokenFrom m₀ tokens d 24576 last)
 append-end {m₀} {tokens} {d} {last} {end} {m} {at} {cell} inv h =
     sets-none m at (inv .left) (woken-end (wakesOf (take 24576 m₀) tokens d) m₀ cell last (inv .upto) h)
 
 module _ {m₀ : List ℕ} {tokens d last : ℕ} {m : List ℕ} {at cell : ℕ} (inv : Closing m₀ tokens d last m at cell) (h : last ≤ cell) where
-  close-none : stayFrom m₀ tokens d last cell ≡ []
+  close-none : stayingFrom m₀ tokens d cell last ≡ []
   close-none = staying-end (wakesOf (take 24576 m₀) tokens d) m₀ cell last (inv .upto) h
 
-  pub close-end : at ≡ 24576 + length (stayFrom m₀ tokens d last 24576)
+  pub close-end : at ≡ 24576 + length (stayingFrom m₀ tokens d 24576 last)
   close-end = omega (arith, inv .end, ap length close-none)
 
-  pub close-memory : m ≡ sets m₀ 24576 (stayFrom m₀ tokens d last 24576)
+  pub close-memory : m ≡ sets m₀ 24576 (stayingFrom m₀ tokens d 24576 last)
   close-memory = sets-none m at (inv .left) close-none
 
 -- marking the tokens in some cells: these cells are as at first, and their tokens are below 4,096

@@ -7,21 +7,19 @@ use native.Mathlib.Omega.{arith}
 use borrow.Author.Tests.{le-leb, lt-leb, eq-eqb}
 use lib.Dec.{eqb}
 use lib.ListN.{length, take, drop, set, replicate, length-set, length-replicate}
-use lib.Seq.{take-take, take-set-le, drop-set-lt, sets, slice, length-slice, length-sets}
-use Rattle.rules.specs.Lists.{if, has}
+use lib.Seq.{take-set-le, drop-set-lt, sets, slice, length-slice, length-sets}
+use Rattle.rules.specs.Lists.{if, has, any, Below}
 use Rattle.rules.specs.TakingTokens.{tokensOf}
 use Rattle.rules.specs.TakingTokens as rules
 use Rattle.rules.specs.Sources.{Passed}
 use Rattle.tables.specs.declared.Tables.{Tables}
 use Rattle.tables.specs.Facts.{standingOf, wakesOf}
-use Rattle.rules.specs.Lists.{any}
 use Rattle.tables.specs.State.{State, marks, tableOf}
 use Rattle.tables.specs.Releasing.{isYes, isUnsound, wokenOf, stayingOf, wokenIn, stayingIn, unsoundIn, movedTables, movedMemory, releaseOf}
-use Rattle.rules.specs.Lists.{Below}
 use Rattle.tables.specs.Matching.{Recorded, Standing, Match, nobody, only}
 use Rattle.rules.proofs.lists.Members.{keep-all, below-keep, below-mono}
-use Rattle.tables.proofs.memory.Cells.{take-sets, drop-sets, drop-more, facts-length, slice-before, slice-sets}
-use Rattle.tables.proofs.memory.MemoryLaws.{standing-set, length-marks, take-marks, drop-marks, standing-marks, recorded-same, slice-append, slice-same}
+use Rattle.tables.proofs.memory.Cells.{take-less, take-sets, drop-sets, drop-more, slice-before, slice-sets}
+use Rattle.tables.proofs.memory.MemoryLaws.{standing-set, length-marks, take-marks, drop-marks, standing-marks, recorded-kept, slice-append, slice-same}
 use Rattle.tables.proofs.matching.StandingLaws.{table-low}
 use Rattle.tables.proofs.matching.RuleReleasing.{finished, woken-are, staying-are, none-unsound, release-standing}
 
@@ -74,14 +72,12 @@ module _ (m : List ℕ) (whole : 32768 ≤ length m) (end held d : ℕ) (woken s
       ∙ ap (λ s. if (eqb d n) 3 s)
       (standing-marks cleared 2 woken (rw cleared-length whole) low n ∙ ap (λ l. if (has woken n) 2 (standingOf l n)) cleared-facts))
 
-  moved-records : take 20480 (take 24576 moved) ≡ take 20480 (take 24576 m)
+  moved-records : take 20480 moved ≡ take 20480 m
   unfolding moved readied
   moved-records =
-      take-take 20480 24576 moved (omega arith)
-      ∙ take-set-le 20480 readied (20480 + d) 3 (omega arith)
+      take-set-le 20480 readied (20480 + d) 3 (omega arith)
       ∙ take-marks cleared 2 woken
-      ∙ sym (take-take 20480 24576 cleared (omega arith))
-      ∙ ap (λ (l : List ℕ). take 20480 l) cleared-facts
+      ∙ take-less m cleared 24576 20480 cleared-facts (omega arith)
 
   moved-tables : drop 24576 moved ≡ drop 24576 cleared
   unfolding moved readied
@@ -90,7 +86,8 @@ module _ (m : List ℕ) (whole : 32768 ≤ length m) (end held d : ℕ) (woken s
   moved-table : slice 24576 (24576 + length staying) moved ≡ staying
   unfolding cleared closed
   moved-table =
-      slice-same cleared moved 24576 24576 (24576 + length staying) moved-tables (omega arith) (omega arith) (omega (arith, cleared-length)) (moved-length ∙ sym cleared-length)
+      slice-same cleared moved 24576 24576 (24576 + length staying) moved-tables (omega arith) (omega arith) (omega (arith, cleared-length))
+      (moved-length ∙ sym cleared-length)
       ∙ slice-before (replicate (held - length staying) 0) closed (24576 + length staying) 24576 (24576 + length staying) (omega arith)
       ∙ slice-sets staying queued 24576 (omega (arith, queued-length))
 
@@ -99,10 +96,12 @@ module _ (m : List ℕ) (whole : 32768 ≤ length m) (end held d : ℕ) (woken s
   moved-queue first h =
       let same : drop 28672 moved ≡ drop 28672 queued =
       drop-more cleared moved 24576 28672 moved-tables (omega arith)
-      ∙ drop-sets (replicate (held - length staying) 0) closed (24576 + length staying) 28672 (omega (arith, length-replicate {A = ℕ} (held - length staying) 0))
+      ∙ drop-sets (replicate (held - length staying) 0) closed (24576 + length staying) 28672
+      (omega (arith, length-replicate {A = ℕ} (held - length staying) 0))
       ∙ drop-sets staying queued 24576 28672 (omega arith) in
       let ends : 28672 + (end + length woken) ≡ 28672 + end + length woken = omega arith in
-      slice-same queued moved 28672 (28672 + first) (28672 + (end + length woken)) same (omega arith) (omega arith) (omega (arith, queued-length)) (moved-length ∙ sym queued-length)
+      slice-same queued moved 28672 (28672 + first) (28672 + (end + length woken)) same (omega arith) (omega arith) (omega (arith, queued-length))
+      (moved-length ∙ sym queued-length)
       ∙ (rw (← ends) at (slice-append woken m (28672 + first) (28672 + end) (omega arith) (omega arith)))
 
 module _ (tokens : ℕ) (numbers : ℕ → List ℕ) (a : rules.Tables) (t : Tables) (m : List ℕ) (d : ℕ) (p : Match tokens numbers a (t, m) (only d)) where
@@ -176,10 +175,9 @@ module _ (tokens : ℕ) (numbers : ℕ → List ℕ) (a : rules.Tables) (t : Tab
   after-records : (n : ℕ) → n < tokens → Recorded (take 24576 (movedMemory t d m)) n (numbers n)
   unfolding movedMemory moved readied cleared closed queued
   after-records n l =
-      recorded-same (take 24576 m) (take 24576 (movedMemory t d m))
+      recorded-kept m (movedMemory t d m)
       (moved-records m (p .whole) (t .end) (t .held) d (wokenIn t d m) (stayingIn t d m) room short (p .range .held) woken-low low)
-      n (omega (arith, p .size, p .range .tokens)) (omega (arith, facts-length m (p .whole))) (omega (arith, facts-length (movedMemory t d m) (rw long (p .whole))))
-      (p .records n l)
+      long (p .whole) n (omega (arith, p .size, p .range .tokens)) (p .records n l)
 
   after-standing : Standing numbers (rules.release d a) (standingOf (take 24576 (movedMemory t d m))) nobody
   unfolding movedMemory moved readied cleared closed queued
@@ -195,7 +193,14 @@ module _ (tokens : ℕ) (numbers : ℕ → List ℕ) (a : rules.Tables) (t : Tab
     (movedTables t d m, movedMemory t d m),
     releases,
     record {
-      range = record { tokens = p .range .tokens; count = p .range .count; queue = omega (arith, p .range .queue); end = room; held = omega (arith, short, p .range .held) };
+      range = record {
+        tokens = p .range .tokens;
+        count = p .range .count;
+        queue = omega (arith, p .range .queue);
+        end = room;
+        held = omega
+            (arith, short, p .range .held);
+      };
       whole = rw long (p .whole);
       size = p .size;
       count = p .count;

@@ -7,8 +7,8 @@ use native.Mathlib.Omega.{arith}
 use borrow.Author.Tests.{lt-ltb, le-ltb, le-leb, eqb-true, eqb-false, ltb-true, ltb-false, leb-true}
 use lib.Dec.{leb, ltb, eqb}
 use lib.ListN.{length, getD, take, drop, set, length-set}
-use lib.Seq.{take-take, take-set-le, drop-set-lt, sets, slice, slice-cons, length-slice, length-sets}
-use Rattle.rules.specs.Lists.{if, has, times}
+use lib.Seq.{take-set-le, drop-set-lt, sets, slice, slice-cons, length-slice, length-sets}
+use Rattle.rules.specs.Lists.{if, has, times, range, Below}
 use Rattle.rules.specs.TakingTokens.{none, took, tokensOf, takeNew, takeFrom}
 use Rattle.rules.specs.TakingTokens as rules
 use Rattle.rules.specs.Sources.{Taken as Outcome, Nothing, Took}
@@ -16,15 +16,13 @@ use Rattle.tables.specs.declared.Tables.{Tables}
 use Rattle.tables.specs.declared.Count.{Count}
 use Rattle.tables.specs.Facts.{standingOf}
 use Rattle.tables.specs.State.{State, span, marks}
-use Rattle.rules.specs.Lists.{range}
 use Rattle.tables.specs.Taking.{findOf, deferredUpto, withCount, withoutFirst, takeUpto, takeReady, takeOf}
-use Rattle.rules.specs.Lists.{Below}
 use Rattle.tables.specs.Matching.{Standing, Match, nobody, only}
 use Rattle.rules.proofs.lists.Tests.{if-eta, by-test}
 use Rattle.rules.proofs.lists.Counting.{times-none}
 use Rattle.rules.proofs.lists.Members.{below-range, length-range}
-use Rattle.tables.proofs.memory.Cells.{take-sets, drop-sets, drop-more, facts-length}
-use Rattle.tables.proofs.memory.MemoryLaws.{standing-set, length-marks, take-marks, drop-marks, standing-marks, recorded-same, slice-append, slice-same}
+use Rattle.tables.proofs.memory.Cells.{take-less, take-sets, drop-sets, drop-more}
+use Rattle.tables.proofs.memory.MemoryLaws.{standing-set, length-marks, take-marks, drop-marks, standing-marks, recorded-kept, slice-append, slice-same}
 use Rattle.tables.proofs.matching.RuleTaking.{Passing, after, Together, new-tokens, new-standing, tokens-after, marked, waiting-same}
 use Rattle.tables.proofs.matching.StandingLaws.{ready-low}
 
@@ -103,14 +101,13 @@ module _ (tokens : ℕ) (numbers : ℕ → List ℕ) (a : rules.Tables) (t : Tab
           count = p .count;
           room = p .room;
           queue =
-              slice-same m cleared 24576 (28672 + (t .first + 1)) (28672 + t .end) tables (omega arith) (omega arith) (omega (arith, p .range .end, p .whole)) long
+              slice-same m cleared 24576 (28672 + (t .first + 1)) (28672 + t .end) tables (omega arith) (omega arith)
+              (omega (arith, p .range .end, p .whole)) long
               ∙ (rw next at rest-is);
           table =
               slice-same m cleared 24576 24576 (24576 + t .held) tables (omega arith) (omega arith) (omega (arith, p .range .held, p .whole)) long ∙ p .table;
           records = λ j l.
-              recorded-same (take 24576 m) (take 24576 cleared)
-              (take-take 20480 24576 cleared (omega arith) ∙ take-set-le 20480 m (20480 + n) 0 (omega arith) ∙ sym (take-take 20480 24576 m (omega arith)))
-              j (omega (arith, p .range .tokens, p .size)) (omega (arith, facts-length m (p .whole))) (omega (arith, facts-length cleared (rw long (p .whole))))
+              recorded-kept m cleared (take-set-le 20480 m (20480 + n) 0 (omega arith)) long (p .whole) j (omega (arith, p .range .tokens, p .size))
               (p .records j l);
           standing = rw standing (ready-standing numbers a (standingOf (take 24576 m)) n rest e (p .standing));
         },
@@ -118,7 +115,8 @@ module _ (tokens : ℕ) (numbers : ℕ → List ℕ) (a : rules.Tables) (t : Tab
 
   -- with no token ready, k tokens are deferred
   module _ (k count : ℕ) (out : ℕ → Bool) (past : a .count + k ≤ count) (inside : count ≤ tokens)
-      (after-standing : Standing numbers (after numbers (take 24576 m) (a .count) a k count) (marked (standingOf (take 24576 m)) 1 (range (a .count) k)) out) where
+      (after-standing : Standing numbers (after numbers (take 24576 m) (a .count) a k count)
+      (marked (standingOf (take 24576 m)) 1 (range (a .count) k)) out) where
     passed : List ℕ
     passed = range (a .count) k
 
@@ -158,11 +156,9 @@ module _ (tokens : ℕ) (numbers : ℕ → List ℕ) (a : rules.Tables) (t : Tab
         drop-more entered left 24576 28672 tables-left (omega arith)
         ∙ drop-sets (range (a .count) k) m (24576 + t .held) 28672 (omega (arith, passed-length, p .room, p .count, p .range .tokens, p .size))
 
-    records-left : take 20480 (take 24576 left) ≡ take 20480 (take 24576 m)
+    records-left : take 20480 left ≡ take 20480 m
     unfolding left
-    records-left =
-        take-take 20480 24576 left (omega arith) ∙ take-marks entered 1 passed
-        ∙ sym (take-take 20480 24576 entered (omega arith)) ∙ ap (λ (l : List ℕ). take 20480 l) facts-entered
+    records-left = take-marks entered 1 passed ∙ take-less m entered 24576 20480 facts-entered (omega arith)
 
     standing-left : standingOf (take 24576 left) ≡ marked (standingOf (take 24576 m)) 1 passed
     unfolding left
@@ -173,24 +169,34 @@ module _ (tokens : ℕ) (numbers : ℕ → List ℕ) (a : rules.Tables) (t : Tab
     unfolding entered passed
     table-left =
         let ends : 24576 + (t .held + k) ≡ 24576 + t .held + length (range (a .count) k) = omega (arith, passed-length) in
-        let fits : 24576 + t .held + length (range (a .count) k) ≤ length m = omega (arith, passed-length, p .room, p .count, p .range .tokens, p .size, p .whole) in
-        slice-same entered left 24576 24576 (24576 + (t .held + k)) tables-left (omega arith) (omega arith) (omega (arith, entered-length, passed-length)) (left-length ∙ sym entered-length)
+        let fits : 24576 + t .held + length (range (a .count) k) ≤ length m = omega
+        (arith, passed-length, p .room, p .count, p .range .tokens, p .size, p .whole) in
+        slice-same entered left 24576 24576 (24576 + (t .held + k)) tables-left (omega arith) (omega arith)
+        (omega (arith, entered-length, passed-length)) (left-length ∙ sym entered-length)
         ∙ (rw (← ends, p .table) at (slice-append (range (a .count) k) m 24576 (24576 + t .held) (omega arith) fits))
 
-    deferred-match : (count′ : ℕ) → count′ ≡ count → Match tokens numbers (after numbers (take 24576 m) (a .count) a k count) (withCount t (a .count + k) count′, left) out
+    deferred-match : (count′ : ℕ) → count′ ≡ count →
+        Match tokens numbers (after numbers (take 24576 m) (a .count) a k count) (withCount t (a .count + k) count′, left) out
     unfolding passed
     deferred-match count′ count-is =
         let new : (a .count + k) - t .count ≡ k = omega (arith, p .count) in
         record {
-          range = record { tokens = p .range .tokens; count = omega (arith, p .size); queue = p .range .queue; end = p .range .end; held = omega (arith, p .room, p .count, p .range .tokens, p .size) };
+          range = record {
+            tokens = p .range .tokens;
+            count = omega (arith, p .size);
+            queue = p .range .queue;
+            end = p .range .end;
+            held = omega
+                (arith, p .room, p .count, p .range .tokens, p .size);
+          };
           whole = rw left-length (p .whole);
           size = p .size;
           count = count-is;
           room = omega (arith, p .room, p .count);
-          queue = slice-same m left 28672 (28672 + t .first) (28672 + t .end) queue-left (omega arith) (omega (arith, p .range .queue)) (omega (arith, p .range .end, p .whole)) left-length ∙ p .queue;
+          queue = slice-same m left 28672 (28672 + t .first) (28672 + t .end) queue-left (omega arith) (omega (arith, p .range .queue))
+              (omega (arith, p .range .end, p .whole)) left-length ∙ p .queue;
           table = rw (new, tokens-after numbers (take 24576 m) (a .count) (a .deferred) (range (a .count) k)) table-left;
-          records = λ n l. recorded-same (take 24576 m) (take 24576 left) records-left n (omega (arith, p .range .tokens, p .size))
-              (omega (arith, facts-length m (p .whole))) (omega (arith, facts-length left (rw left-length (p .whole)))) (p .records n l);
+          records = λ n l. recorded-kept m left records-left left-length (p .whole) n (omega (arith, p .range .tokens, p .size)) (p .records n l);
           standing = rw standing-left after-standing;
         }
 
@@ -199,14 +205,16 @@ module _ (tokens : ℕ) (numbers : ℕ → List ℕ) (a : rules.Tables) (t : Tab
     nothing-passed =
         record {
           from = omega arith;
-          held = λ n. p .standing .marked n ∙ sym (ap (λ b. if (eqb (standingOf (take 24576 m) n) 1) true b) (none n) ∙ if-eta (eqb (standingOf (take 24576 m) n) 1));
+          held = λ n. p .standing .marked n
+              ∙ sym (ap (λ b. if (eqb (standingOf (take 24576 m) n) 1) true b) (none n) ∙ if-eta (eqb (standingOf (take 24576 m) n) 1));
         }
       where
         none : (n : ℕ) → if (leb (a .count) n) (ltb n (a .count)) false ≡ false
         none n = by-test (leb (a .count) n) (λ e. rw (e, le-ltb n (a .count) (leb-true (a .count) n e))) (λ e. rw e)
 
     together : Together numbers (take 24576 m) (a .count) tokens (tokens - a .count) a
-    together = new-tokens numbers (take 24576 m) (a .count) tokens (tokens - a .count) a (p .records) nothing-passed (omega (arith, p .range .count, p .count, p .size))
+    together = new-tokens numbers (take 24576 m) (a .count) tokens (tokens - a .count) a (p .records) nothing-passed
+        (omega (arith, p .range .count, p .count, p .size))
 
     k : ℕ
     k = together .0
@@ -234,7 +242,8 @@ module _ (tokens : ℕ) (numbers : ℕ → List ℕ) (a : rules.Tables) (t : Tab
 
     room-left : leb (t .held + ((a .count + k) - t .count)) 4096 ≡ true
     unfolding k
-    room-left = le-leb (t .held + ((a .count + together .0) - t .count)) 4096 (omega (arith, together .1, p .room, p .count, p .size, p .range .count, p .range .tokens))
+    room-left = le-leb (t .held + ((a .count + together .0) - t .count)) 4096
+        (omega (arith, together .1, p .room, p .count, p .size, p .range .count, p .range .tokens))
 
     last-within : a .count + k ≤ tokens
     unfolding k

@@ -6,14 +6,12 @@ use Prim.Native.Nat.{ℕ, _+_, _<_, _≤_}
 use native.Mathlib.Omega.{arith}
 use borrow.Author.Tests.{lt-leb, eq-eqb, ne-eqb, eqb-true, eqb-false, not-true, not-false}
 use lib.Dec.{eqb}
-use Rattle.rules.specs.Lists.{if, keep, has, empty, times, Every}
+use Rattle.rules.specs.Lists.{if, keep, has, empty, times, Every, any, Below}
 use Rattle.rules.specs.TakingTokens.{Held, tokensOf, lose}
 use Rattle.rules.specs.TakingTokens as rules
 use Rattle.tables.specs.declared.Test.{Test}
 use Rattle.tables.specs.Facts.{standingOf, leftOf, holdsOf, anyOf, ofNumbers, wakesOf}
-use Rattle.rules.specs.Lists.{any}
 use Rattle.tables.specs.Releasing.{isYes, isUnsound, wokenOf, stayingOf}
-use Rattle.rules.specs.Lists.{Below}
 use Rattle.tables.specs.Matching.{Recorded, Waits, Standing, nobody, only}
 use Rattle.rules.proofs.lists.Tests.{if-same, if-eta, by-test}
 use Rattle.rules.proofs.lists.Members.{has-append, keep-keep, empty-keep, keep-cong, any-third, any-none, below-has, below-mono}

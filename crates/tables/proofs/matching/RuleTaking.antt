@@ -8,14 +8,12 @@ use native.Mathlib.Nat.{add-zero}
 use borrow.Author.Tests.{lt-ltb, le-ltb, le-leb, lt-leb, ne-eqb, ltb-true, ltb-false, leb-true, leb-false, eqb-true, eqb-false}
 use lib.Dec.{leb, ltb, eqb}
 use lib.Seq.{append-snoc}
-use Rattle.rules.specs.Lists.{if, keep, has, times, Every}
+use Rattle.rules.specs.Lists.{if, keep, has, times, Every, any, range}
 use Rattle.rules.specs.TakingTokens.{Held, Taken, none, took, tokensOf, isDue, raised, hold, takeNew}
 use Rattle.rules.specs.TakingTokens as rules
 use Rattle.tables.specs.declared.Test.{Test}
 use Rattle.tables.specs.declared.Count.{Count}
 use Rattle.tables.specs.Facts.{standingOf, dueOf, holdsOf, anyOf, ofNumbers, freeOf}
-use Rattle.rules.specs.Lists.{any}
-use Rattle.rules.specs.Lists.{range}
 use Rattle.tables.specs.Taking.{firstFree}
 use Rattle.tables.specs.Matching.{Recorded, Waits, Standing, nobody}
 use Rattle.rules.proofs.lists.Tests.{if-same, if-eta, bool-ext, by-test}
@@ -126,7 +124,15 @@ module _ (numbers : ℕ → List ℕ) (f : List ℕ) (c tokens : ℕ) where
       0,
       omega arith,
       rw (free-is (a .count) recorded, b-is, add-zero (a .count)),
-      rw (due-is, empty-keep (dueOf f c (a .count)) (numbers (a .count)), b-is, append-nil (a .deferred), add-zero (a .count), lt-ltb (a .count) tokens (omega arith)),
+      rw (
+        due-is,
+        empty-keep (dueOf f c (a .count)) (numbers (a .count)),
+        b-is,
+        append-nil (a .deferred),
+        add-zero (a .count),
+        lt-ltb
+            (a .count) tokens (omega arith),
+      ),
       tt,
     )
 
@@ -143,7 +149,8 @@ module _ (numbers : ℕ → List ℕ) (f : List ℕ) (c tokens : ℕ) where
           (b-is, later .4),
         )
 
-  pub new-tokens : (left : ℕ) (a : rules.Tables) → ((n : ℕ) → n < tokens → Recorded f n (numbers n)) → Passing f c a → a .count + left ≡ tokens → Together left a
+  pub new-tokens : (left : ℕ) (a : rules.Tables) → ((n : ℕ) → n < tokens → Recorded f n (numbers n)) → Passing f c a → a .count + left ≡ tokens →
+      Together left a
   unfolding takeNew firstFree range
   new-tokens zero a records p e = (
     0,
@@ -273,7 +280,8 @@ module _ (numbers : ℕ → List ℕ) (self : (n : ℕ) → has (numbers n) n �
   new-settled : (n : ℕ) → n < a .count + k → has new-table n ≡ false → new n ≡ 3
   unfolding new new-table
   new-settled n l t =
-      let t′ : if (has (tokensOf (a .deferred)) n) true (has (range (a .count) k) n) ≡ false = rw (has-append (tokensOf (a .deferred)) (range (a .count) k) n) at t in
+      let t′ : if (has (tokensOf (a .deferred)) n) true (has (range (a .count) k) n) ≡ false = rw
+      (has-append (tokensOf (a .deferred)) (range (a .count) k) n) at t in
       by-test (has (range (a .count) k) n)
       (λ e. absurd (true≢false (sym (if-same (has (tokensOf (a .deferred)) n) true) ∙ (rw e at t′))))
       (λ e. rw e

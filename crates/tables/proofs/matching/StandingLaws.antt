@@ -4,9 +4,8 @@ use mathlib.Core.Bool.{Bool, true}
 use mathlib.Core.List.{List, [], _∷_}
 use Prim.Native.Nat.{ℕ, _<_}
 use native.Mathlib.Omega.{arith}
-use borrow.Author.Tests.{eqb-true}
+use borrow.Author.Tests.{eqb-true, leb-true, leb-false}
 use lib.Dec.{leb}
-use borrow.Author.Tests.{leb-true, leb-false}
 use Rattle.rules.specs.Lists.{has, Below}
 use Rattle.rules.specs.TakingTokens.{tokensOf}
 use Rattle.rules.specs.TakingTokens as rules

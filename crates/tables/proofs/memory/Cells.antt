@@ -5,7 +5,8 @@ use Prim.Native.Nat.{ℕ, suc, _+_, _-_, _<_, _≤_}
 use native.Mathlib.Omega.{arith}
 use native.Mathlib.Numerals.{add-one}
 use lib.ListN.{length, getD, take, drop, set, replicate, length-append, take-append-drop}
-use lib.Seq.{length-take-le, length-slice, sets, sets-eq, slice, take-set-le, drop-set-lt, take-take, drop-drop, take-add, take-at, drop-at, getD-take, getD-drop}
+use lib.Seq.{length-take-le, length-slice, sets, sets-eq, slice, take-set-le, drop-set-lt, take-take, drop-drop, take-add, take-at, drop-at}
+use lib.Seq.{getD-take, getD-drop}
 use Rattle.tables.specs.Layout.{standingAt}
 use Rattle.tables.specs.State.{span, marks}
 use Rattle.rules.specs.Lists.{range}
@@ -63,14 +64,16 @@ module _ (m m′ : List ℕ) (n k : ℕ) where
       rw k-is at (sym (getD-drop n m′ (k - n) 0) ∙ ap (λ (l : List ℕ). getD l (k - n) 0) e ∙ getD-drop n m (k - n) 0)
 
 -- a store, where a list of values is left to store
-pub sets-store : {whole : List ℕ} (m : List ℕ) (at : ℕ) {vs ws : List ℕ} {u v : ℕ} → whole ≡ sets m at vs → vs ≡ v ∷ ws → u ≡ v → whole ≡ sets (set m at u) (at + 1) ws
+pub sets-store : {whole : List ℕ} (m : List ℕ) (at : ℕ) {vs ws : List ℕ} {u v : ℕ} → whole ≡ sets m at vs → vs ≡ v ∷ ws → u ≡ v →
+    whole ≡ sets (set m at u) (at + 1) ws
 sets-store m at e vs-are u-is = rw (u-is, add-one at) (rw vs-are at e)
 
 pub sets-none : {whole : List ℕ} (m : List ℕ) (at : ℕ) {vs : List ℕ} → whole ≡ sets m at vs → vs ≡ [] → m ≡ whole
 sets-none m at e vs-are = sym (rw vs-are at e)
 
 -- a mark, where a list of tokens is left to mark
-pub marks-store : {whole : List ℕ} (m : List ℕ) (s : ℕ) {ts us : List ℕ} {t u : ℕ} → whole ≡ marks m s ts → ts ≡ t ∷ us → u ≡ t → whole ≡ marks (set m (20480 + u) s) s us
+pub marks-store : {whole : List ℕ} (m : List ℕ) (s : ℕ) {ts us : List ℕ} {t u : ℕ} → whole ≡ marks m s ts → ts ≡ t ∷ us → u ≡ t →
+    whole ≡ marks (set m (20480 + u) s) s us
 unfolding marks
 marks-store m s e ts-are u-is = rw u-is (rw ts-are at e)
 

@@ -9,12 +9,11 @@ use lib.Dec.{leb, eqb}
 use lib.ListN.{length, getD, take, drop, List·getD-eq-default, drop-of-length-le}
 use lib.Seq.{drop-cons}
 use borrow.Author.Tests.{lt-ltb, le-ltb, le-leb, lt-leb, ne-eqb, leb-true}
-use Rattle.rules.specs.Lists.{if}
+use Rattle.rules.specs.Lists.{if, any}
 use Rattle.tables.specs.declared.Numbers.{Numbers}
 use Rattle.tables.specs.declared.Question.{Question}
 use Rattle.tables.specs.declared.Test.{Test}
 use Rattle.tables.specs.Facts.{standingOf, numbersAt, numbersOf, holdsOf, dueOf, leftOf, anyOf, freeOf, wakesOf, ofNumbers}
-use Rattle.rules.specs.Lists.{any}
 
 module _ (f : List ℕ) where
   -- no token has a number from 4,096 on

@@ -7,11 +7,11 @@ use native.Mathlib.Omega.{arith}
 use borrow.Author.Tests.{ltb-true, ltb-false, ne-eqb, eqb-true, eqb-false}
 use lib.Dec.{ltb, eqb}
 use lib.ListN.{length, getD, take, drop, set, length-set, length-append}
-use lib.Seq.{sets, sets-eq, slice, length-take-le, getD-take, getD-set-same, getD-set-other, take-set-le, drop-set-lt, take-at, drop-append-le}
-use Rattle.rules.specs.Lists.{if, has}
+use lib.Seq.{sets, sets-eq, slice, length-take-le, getD-take, getD-set-same, getD-set-other, take-set-le, drop-set-lt, take-at, drop-append-le, take-take}
+use Rattle.rules.specs.Lists.{if, has, Below}
+use Rattle.tables.specs.Layout.{factsOf}
 use Rattle.tables.specs.Facts.{standingOf, numbersAt, numbersOf}
 use Rattle.tables.specs.State.{marks}
-use Rattle.rules.specs.Lists.{Below}
 use Rattle.tables.specs.Matching.{Recorded}
 use Rattle.tables.proofs.memory.FactsLaws.{standing-none, at-beyond, numbers-within}
 use Rattle.tables.proofs.memory.Cells.{facts-length, take-less, drop-more, cell-below, slice-from}
@@ -80,7 +80,7 @@ module _ (f f′ : List ℕ) (same : take 20480 f′ ≡ take 20480 f) (n : ℕ)
   unfolding numbersOf
   numbers-same = rw (cell-below f f′ 20480 (16384 + n) same (omega arith)) (at-same (getD f (16384 + n) 0))
 
-  pub recorded-same : {ns : List ℕ} → 20480 ≤ length f → 20480 ≤ length f′ → Recorded f n ns → Recorded f′ n ns
+  recorded-same : {ns : List ℕ} → 20480 ≤ length f → 20480 ≤ length f′ → Recorded f n ns → Recorded f′ n ns
   recorded-same {ns} long long′ r =
       let a : ℕ = r .0 in
       let b : ℕ = r .1 in
@@ -92,6 +92,15 @@ module _ (f f′ : List ℕ) (same : take 20480 f′ ≡ take 20480 f) (n : ℕ)
         numbers-same ∙ r .2,
         sym (slice-from f′ a (b - a) (omega (arith, w .0, w .1))) ∙ rw b-is part ∙ (rw b-is at (slice-from f a (b - a) (omega (arith, w .0, w .1)))) ∙ r .3,
       )
+
+-- so a memory with the same cells below the standings has the same records
+pub recorded-kept : (m m′ : List ℕ) → take 20480 m′ ≡ take 20480 m → length m′ ≡ length m → 32768 ≤ length m →
+    (n : ℕ) → n < 4096 → {ns : List ℕ} → Recorded (factsOf m) n ns → Recorded (factsOf m′) n ns
+recorded-kept m m′ same long whole n low r =
+    let short : length (factsOf m) ≡ 24576 = facts-length m whole in
+    let short′ : length (factsOf m′) ≡ 24576 = facts-length m′ (omega arith) in
+    recorded-same (factsOf m) (factsOf m′)
+    (take-take 20480 24576 m′ (omega arith) ∙ same ∙ sym (take-take 20480 24576 m (omega arith))) n low (omega arith) (omega arith) r
 
 -- a run of stores at the end of some cells appends to them
 pub slice-append : (vs m : List ℕ) (f e : ℕ) → f ≤ e → e + length vs ≤ length m → slice f (e + length vs) (sets m e vs) ≡ slice f e m ++ vs

@@ -37,7 +37,8 @@ sound-range t m e =
     )
 
 -- where all the other numbers are within their ranges, the last decides
-pub sound-last : (t : Tables) (m : List ℕ) → 32768 ≤ length m → t .tokens ≤ 4096 → t .count ≤ t .tokens → t .first ≤ t .end → t .end ≤ 4096 → leb (t .held) 4096 ≡ soundOf (t, m)
+pub sound-last : (t : Tables) (m : List ℕ) → 32768 ≤ length m → t .tokens ≤ 4096 → t .count ≤ t .tokens → t .first ≤ t .end → t .end ≤ 4096 →
+    leb (t .held) 4096 ≡ soundOf (t, m)
 unfolding soundOf
 sound-last t m a b c d e =
     rw (le-leb 32768 (length m) a, le-leb (t .tokens) 4096 b, le-leb (t .count) (t .tokens) c, le-leb (t .first) (t .end) d, le-leb (t .end) 4096 e)

@@ -8,7 +8,7 @@ use borrow.Author.Tests.{ltb-true, leb-true, leb-false}
 use lib.Dec.{leb, ltb}
 use lib.ListN.{length, take, drop, set, replicate, length-append, length-set, length-replicate, List·getD-append}
 use lib.Seq.{sets, length-sets, set-append-left, take-append-le}
-use Rattle.rules.specs.Lists.{has}
+use Rattle.rules.specs.Lists.{has, range, Below}
 use Rattle.rules.specs.Sources.{Taken as Outcome, Spoiled, Nothing, Took, Released, Broken, Passed}
 use Rattle.rules.specs.RelatedSources.{mapTaken, mapReleased, Follows}
 use Rattle.rules.proofs.lists.Tests.{by-test}
@@ -16,10 +16,8 @@ use Rattle.tables.specs.declared.Tables.{Tables}
 use Rattle.tables.specs.declared.Count.{Count}
 use Rattle.tables.specs.Layout.{factsOf}
 use Rattle.tables.specs.State.{InRange, soundOf, span, marks, tableOf}
-use Rattle.rules.specs.Lists.{range}
 use Rattle.tables.specs.Taking.{findOf, deferredUpto, oldestOf, takeUpto, takeReady, takeOf}
-use Rattle.tables.specs.Releasing.{wokenIn, stayingIn, unsoundIn, movedTables, movedMemory, releaseOf}
-use Rattle.rules.specs.Lists.{Below}
+use Rattle.tables.specs.Releasing.{wokenIn, stayingIn, unsoundIn, movedBy, movedTables, movedMemory, releaseOf}
 use Rattle.tables.specs.Matching.{beyond}
 use Rattle.tables.specs.Calls.{safeTake, safeRelease, memorySource}
 use Rattle.rules.proofs.lists.Members.{below-range, length-range}
@@ -43,9 +41,7 @@ module _ (r : List ℕ) where
 
   -- the passes of a release
   passes-beyond : (m woken staying : List ℕ) (end held d : ℕ) → 32768 ≤ length m → end + length woken ≤ 4096 → length staying ≤ held → held ≤ 4096 →
-      Below 4096 woken → d < 4096 →
-      set (marks (sets (sets (sets (m ++ r) (28672 + end) woken) 24576 staying) (24576 + length staying) (replicate (held - length staying) 0)) 2 woken) (20480 + d) 3
-      ≡ set (marks (sets (sets (sets m (28672 + end) woken) 24576 staying) (24576 + length staying) (replicate (held - length staying) 0)) 2 woken) (20480 + d) 3 ++ r
+      Below 4096 woken → d < 4096 → movedBy (m ++ r) end held d woken staying ≡ movedBy m end held d woken staying ++ r
   passes-beyond m woken staying end held d whole room short most low inside =
       let queued : List ℕ = sets m (28672 + end) woken in
       let queued-length : length queued ≡ length m = length-sets m (28672 + end) woken in
@@ -75,7 +71,8 @@ module _ (r : List ℕ) where
       deferred-beyond : deferredUpto t upto (m ++ r) ≡ deferredUpto t upto m ++ r
       unfolding deferredUpto
       deferred-beyond =
-          ap (λ (l : List ℕ). marks l 1 (span (t .count) upto)) (sets-beyond (span (t .count) upto) m (24576 + t .held) (omega (arith, length-range (t .count) (upto - t .count))))
+          ap (λ (l : List ℕ). marks l 1 (span (t .count) upto))
+          (sets-beyond (span (t .count) upto) m (24576 + t .held) (omega (arith, length-range (t .count) (upto - t .count))))
           ∙ marks-beyond 1 (span (t .count) upto) (sets m (24576 + t .held) (span (t .count) upto))
           (below-range 4096 (t .count) (upto - t .count) (omega (arith, ok .tokens, ok .count))) (rw length-sets whole)
 
@@ -158,13 +155,15 @@ module _ (r : List ℕ) where
             memorySource .take (beyond r (memorySide j)) ≡ mapTaken (λ j. beyond r (memorySide j)) (takeJoint tokens numbers others j)
         takes j n =
             let p = sides-match j .1 in
-            safe-take-beyond (memorySide j .0) (memorySide j .1) (p .range) (p .whole) ∙ ap (mapTaken (beyond r)) (memory .takes j n) ∙ taken-twice (takeJoint tokens numbers others j)
+            safe-take-beyond (memorySide j .0) (memorySide j .1) (p .range) (p .whole) ∙ ap (mapTaken (beyond r)) (memory .takes j n)
+            ∙ taken-twice (takeJoint tokens numbers others j)
 
         releases : (d : ℕ) (j : Joint tokens numbers) → (releaseJoint tokens numbers others d j ≡ Broken → ⊥) →
             memorySource .release d (beyond r (memorySide j)) ≡ mapReleased (λ j. beyond r (memorySide j)) (releaseJoint tokens numbers others d j)
         releases d j n =
             let p = sides-match j .1 in
-            safe-release-beyond (memorySide j .0) (memorySide j .1) (p .range) (p .whole) d ∙ ap (mapReleased (beyond r)) (memory .releases d j n) ∙ released-twice (releaseJoint tokens numbers others d j)
+            safe-release-beyond (memorySide j .0) (memorySide j .1) (p .range) (p .whole) d ∙ ap (mapReleased (beyond r)) (memory .releases d j n)
+            ∙ released-twice (releaseJoint tokens numbers others d j)
 
         sounds : (j : Joint tokens numbers) → soundOf (beyond r (memorySide j)) ≡ true
         sounds j =

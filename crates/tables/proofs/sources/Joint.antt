@@ -90,7 +90,8 @@ module _ (tokens : ℕ) (numbers : ℕ → List ℕ) (others : (n : ℕ) → has
       takes (resting a x p) h = rule-takes (rules.take tokens numbers a) (takeOf (x .0) (x .1)) (take-match tokens numbers a (x .0) (x .1) p others)
       takes (holding n a x p) h = absurd (h refl)
 
-      releases : (d : ℕ) (j : Joint tokens numbers) → (releaseJoint d j ≡ Broken → ⊥) → Passed (rules.release d (ruleSide j)) ≡ mapReleased ruleSide (releaseJoint d j)
+      releases : (d : ℕ) (j : Joint tokens numbers) → (releaseJoint d j ≡ Broken → ⊥) →
+          Passed (rules.release d (ruleSide j)) ≡ mapReleased ruleSide (releaseJoint d j)
       releases d (resting a x p) h = absurd (h refl)
       releases d (holding n a x p) h = by-test (eqb d n)
           (λ e. rw (e, eqb-true d n e))
@@ -107,10 +108,12 @@ module _ (tokens : ℕ) (numbers : ℕ → List ℕ) (others : (n : ℕ) → has
   memory-follows = record { takes = takes; releases = releases; sounds = sounds }
     where
       takes : (j : Joint tokens numbers) → (takeJoint j ≡ Spoiled → ⊥) → memorySource .take (memorySide j) ≡ mapTaken memorySide (takeJoint j)
-      takes (resting a x p) h = safe-take x (match-sound x p) ∙ memory-takes (rules.take tokens numbers a) (takeOf (x .0) (x .1)) (take-match tokens numbers a (x .0) (x .1) p others)
+      takes (resting a x p) h = safe-take x (match-sound x p)
+          ∙ memory-takes (rules.take tokens numbers a) (takeOf (x .0) (x .1)) (take-match tokens numbers a (x .0) (x .1) p others)
       takes (holding n a x p) h = absurd (h refl)
 
-      releases : (d : ℕ) (j : Joint tokens numbers) → (releaseJoint d j ≡ Broken → ⊥) → memorySource .release d (memorySide j) ≡ mapReleased memorySide (releaseJoint d j)
+      releases : (d : ℕ) (j : Joint tokens numbers) → (releaseJoint d j ≡ Broken → ⊥) →
+          memorySource .release d (memorySide j) ≡ mapReleased memorySide (releaseJoint d j)
       releases d (resting a x p) h = absurd (h refl)
       releases d (holding n a x p) h = by-test (eqb d n)
           (λ e. rw (e, eqb-true d n e) (safe-release n x (match-sound x p) ∙ release-match tokens numbers a (x .0) (x .1) n p .1))
