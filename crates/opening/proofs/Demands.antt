@@ -27,10 +27,10 @@ use Rattle.plan.specs.Plan.{Plan, Valid}
 use Rattle.tables.specs.State.{State, tableOf, openedTables}
 use Rattle.tables.specs.Calls.{memorySource}
 use Rattle.tables.specs.Matching.{Match, nobody, beyond}
-use Rattle.tables.proofs.Joint.{Joint, resting, ruleSide, memorySide, sides-match, jointSource, rule-follows, memory-follows, joint-writes}
-use Rattle.tables.proofs.Beyond.{beyond-follows}
-use Rattle.tables.proofs.SameLength.{length-kept}
-use Rattle.tables.proofs.Refines.{opened-match}
+use Rattle.tables.proofs.sources.Joint.{Joint, resting, ruleSide, memorySide, sides-match, jointSource, rule-follows, memory-follows, joint-writes}
+use Rattle.tables.proofs.sources.Beyond.{beyond-follows}
+use Rattle.tables.proofs.sources.SameLength.{length-kept}
+use Rattle.tables.proofs.sources.Refines.{opened-match}
 use Rattle.opening.specs.Plans.{pipelineOf}
 use Rattle.opening.specs.Layout.{zeros, laidFacts, laidOut}
 use Rattle.opening.specs.Demands.{Came, IsStarted, Alike, numbers, order, begun, told, left, deferredAtEnd, Run, endState, Demands}

@@ -1,19 +1,18 @@
 -- When the tables in memory stand for the tables of the rules.
 use mathlib.Core.Path.{_≡_}
 use mathlib.Core.Bool.{Bool, true, false, not}
-use mathlib.Core.List.{List, [], _∷_, _++_}
+use mathlib.Core.List.{List, _++_}
 use Prim.Native.Nat.{ℕ, _+_, _-_, _<_, _≤_}
 use lib.Dec.{eqb}
 use lib.ListN.{length, take, drop}
-use lib.Seq.{slice}
-use Rattle.rules.specs.Lists.{keep, has, empty}
+use Rattle.rules.specs.Lists.{keep, has, empty, times, Every}
 use Rattle.rules.specs.TakingTokens.{Held, tokensOf}
 use Rattle.rules.specs.TakingTokens as rules
 use Rattle.tables.specs.declared.Tables.{Tables}
 use Rattle.tables.specs.declared.Numbers.{Numbers}
-use Rattle.tables.specs.Facts.{factsOf, standingOf, numbersOf, readyAt}
-use Rattle.tables.specs.State.{State, InRange, tableOf}
-use Rattle.rules.specs.Lists.{Below}
+use Rattle.tables.specs.Layout.{lent, noMark, deferredMark, readyMark, finishedMark, factsOf}
+use Rattle.tables.specs.Facts.{standingOf, numbersOf}
+use Rattle.tables.specs.State.{State, InRange, tableOf, queueOf}
 
 -- a state with more memory lent
 abbrev pub beyond : List ℕ → State → State
@@ -23,31 +22,33 @@ beyond more x = (x .0, x .1 ++ more)
 abbrev pub Recorded : List ℕ → ℕ → List ℕ → Type 0
 Recorded f n ns = (a : ℕ) × (b : ℕ) × (numbersOf f n ≡ Numbers.Part a b) × (take (b - a) (drop a f) ≡ ns)
 
--- each deferred token waits for the numbers of its record that have not finished pipe 0, and there are some
-abbrev pub Waiting : (ℕ → List ℕ) → (ℕ → ℕ) → List Held → Type 0
-Waiting numbers standing [] = Unit {0}
-Waiting numbers standing (h ∷ hs) =
-    ((h .due ≡ keep (λ n. not (eqb (standing n) 3)) (numbers (h .token))) × (empty (h .due) ≡ false)) × Waiting numbers standing hs
+-- a deferred token waits for the numbers of its record that have not finished pipe 0, and there are some
+abbrev pub Waits : (ℕ → List ℕ) → (ℕ → ℕ) → Held → Type 0
+Waits numbers standing h = (h .due ≡ keep (λ n. not (eqb (standing n) finishedMark)) (numbers (h .token))) × (empty (h .due) ≡ false)
 
 -- the standings fit the rules' tables, while some tokens, which `out` tells, were taken and have not finished pipe 0
 pub record Standing (numbers : ℕ → List ℕ) (a : rules.Tables) (standing : ℕ → ℕ) (out : ℕ → Bool) : Type 0 where
-  pub waiting : Waiting numbers standing (a .deferred)
-  pub marked : (n : ℕ) → has (tokensOf (a .deferred)) n ≡ eqb (standing n) 1
-  pub fresh : (n : ℕ) → a .count ≤ n → standing n ≡ 0
-  pub settled : (n : ℕ) → n < a .count → has (tokensOf (a .deferred)) n ≡ false → has (a .ready) n ≡ false → out n ≡ false → standing n ≡ 3
-  pub apart : (n : ℕ) → has (a .ready) n ≡ true → has (tokensOf (a .deferred)) n ≡ false
-  pub outside : (n : ℕ) → out n ≡ true → (has (tokensOf (a .deferred)) n ≡ false) × (n < a .count)
-  pub low : Below (a .count) (tokensOf (a .deferred))
-  pub low-ready : Below (a .count) (a .ready)
+  -- what each token of the deferred table waits for
+  pub waiting : Every (Waits numbers standing) (a .deferred)
+  -- the deferred table and the ready queue are the tokens with these standings, and none is there twice
+  pub marked : (n : ℕ) → has (tokensOf (a .deferred)) n ≡ eqb (standing n) deferredMark
+  pub queued : (n : ℕ) → has (a .ready) n ≡ eqb (standing n) readyMark
+  pub once : (n : ℕ) → times n (tokensOf (a .deferred)) + times n (a .ready) ≤ 1
+  -- a number not yet taken has none, a token taken and in neither has finished pipe 0, unless it is out
+  pub fresh : (n : ℕ) → a .count ≤ n → standing n ≡ noMark
+  pub settled :
+      (n : ℕ) → n < a .count → has (tokensOf (a .deferred)) n ≡ false → has (a .ready) n ≡ false → out n ≡ false → standing n ≡ finishedMark
+  pub outside : (n : ℕ) → out n ≡ true → (standing n ≡ noMark) × (n < a .count)
 
 -- the tables in memory stand for the rules' tables
 pub record Match (tokens : ℕ) (numbers : ℕ → List ℕ) (a : rules.Tables) (x : State) (out : ℕ → Bool) : Type 0 where
   pub range : InRange (x .0)
-  pub whole : 32768 ≤ length (x .1)
+  pub whole : lent ≤ length (x .1)
   pub size : x .0 .tokens ≡ tokens
   pub count : x .0 .count ≡ a .count
+  -- each token became ready at most once, and none is deferred after it
   pub room : x .0 .end + x .0 .held ≤ x .0 .count
-  pub queue : slice (readyAt + x .0 .first) (readyAt + x .0 .end) (x .1) ≡ a .ready
+  pub queue : queueOf (x .0) (x .1) ≡ a .ready
   pub table : tableOf (x .0) (x .1) ≡ tokensOf (a .deferred)
   pub records : (n : ℕ) → n < tokens → Recorded (factsOf (x .1)) n (numbers n)
   pub standing : Standing numbers a (standingOf (factsOf (x .1))) out

@@ -1,32 +1,40 @@
 -- The tables with their memory, their ranges, and lists of tokens in them.
-use mathlib.Core.Bool.{Bool, false}
+use mathlib.Core.Bool.{Bool}
 use mathlib.Core.List.{List, [], _∷_}
-use Prim.Native.Nat.{ℕ, zero, suc, _+_, _-_, _≤_}
+use Prim.Native.Nat.{ℕ, _+_, _-_, _≤_}
 use lib.Dec.{leb}
 use lib.ListN.{length, set}
 use lib.Seq.{slice}
-use Rattle.rules.specs.Lists.{if, range}
+use Rattle.rules.specs.Lists.{all, range}
 use Rattle.tables.specs.declared.Tables.{Tables}
-use Rattle.tables.specs.Facts.{standingAt, deferredAt}
+use Rattle.tables.specs.Layout.{standingAt, deferredAt, readyAt, lent, mostTokens}
 
+-- the tables' numbers, and the lent memory
 abbrev pub State : Type 0
 State = Tables × List ℕ
 
 -- every number of the tables is within its range
 pub record InRange (t : Tables) : Type 0 where
-  pub tokens : t .tokens ≤ 4096
+  pub tokens : t .tokens ≤ mostTokens
   pub count : t .count ≤ t .tokens
   pub queue : t .first ≤ t .end
-  pub end : t .end ≤ 4096
-  pub held : t .held ≤ 4096
+  pub end : t .end ≤ mostTokens
+  pub held : t .held ≤ mostTokens
 
--- enough memory, and every number of the tables within its range
+-- "14 if fewer than 32,768 numbers are lent or a number in state or memory is outside its range": here neither
 unfoldable pub soundOf : State → Bool
 soundOf x =
-    if (leb 32768 (length (x .1))) (if (leb (x .0 .tokens) 4096) (if (leb (x .0 .count) (x .0 .tokens))
-    (if (leb (x .0 .first) (x .0 .end)) (if (leb (x .0 .end) 4096) (leb (x .0 .held) 4096) false) false) false) false) false
+    let (t, m) = x in
+    all
+    (leb lent (length m)
+    ∷ leb (t .tokens) mostTokens
+    ∷ leb (t .count) (t .tokens)
+    ∷ leb (t .first) (t .end)
+    ∷ leb (t .end) mostTokens
+    ∷ leb (t .held) mostTokens
+    ∷ [])
 
--- the tables at opening, for N tokens
+-- the tables at opening, for N tokens: "Count 0 and the rest empty"
 abbrev pub openedTables : ℕ → Tables
 openedTables n = record { tokens = n; count = 0; first = 0; end = 0; held = 0 }
 
@@ -39,6 +47,10 @@ unfoldable pub marks : List ℕ → ℕ → List ℕ → List ℕ
 marks m v [] = m
 marks m v (t ∷ ts) = marks (set m (standingAt + t) v) v ts
 
--- the deferred table
+-- the deferred table, in the order entered
 abbrev pub tableOf : Tables → List ℕ → List ℕ
 tableOf t m = slice deferredAt (deferredAt + t .held) m
+
+-- the ready queue, oldest first
+abbrev pub queueOf : Tables → List ℕ → List ℕ
+queueOf t m = slice (readyAt + t .first) (readyAt + t .end) m

@@ -5,7 +5,7 @@ use Prim.Native.Nat.{_≤_, _-_}
 use lib.ListN.{length, drop}
 use Rattle.tables.specs.Facts.{anyOf, holdsOf}
 use Rattle.rules.specs.Lists.{any}
-use Rattle.tables.proofs.FactsLaws as laws
+use Rattle.tables.proofs.memory.FactsLaws as laws
 use Rattle.tables.proofs.facts.any.Statement.{statement}
 use Rattle.tables.proofs.facts.any.Tie as tie
 
@@ -29,7 +29,10 @@ holds-requires c κs = search needs
 
 returns : tie.Need-returns Inv-loop μ-loop
 unfolding anyOf
-returns c = laws.any-found _ _ _ (c .before .before .before .before .loop .inv .1) 0 (c .before .before .before .loop-test .taken) (sym (c .before .holds .ensures) ∙ c .if1 .taken)
+returns c =
+    let at-loop-test = c .before .before .before in
+    let at-loop = at-loop-test .before in
+    laws.any-found _ _ _ (at-loop .loop .inv .1) 0 (at-loop-test .loop-test .taken) (sym (c .before .holds .ensures) ∙ c .if1 .taken)
 
 add-i : tie.Need-add-i Inv-loop μ-loop
 add-i c = search needs
@@ -38,7 +41,10 @@ loop-less : tie.Need-loop-less Inv-loop μ-loop
 loop-less c = search needs
 
 loop-again : tie.Need-loop-again Inv-loop μ-loop
-loop-again c = (search needs, laws.any-next _ _ _ (c .before .before .before .before .loop .inv .1) 0 (c .before .before .before .loop-test .taken) (sym (c .before .holds .ensures) ∙ c .if1 .left))
+loop-again c =
+    let at-loop-test = c .before .before .before in
+    let at-loop = at-loop-test .before in
+    (search needs, laws.any-next _ _ _ (at-loop .loop .inv .1) 0 (at-loop-test .loop-test .taken) (sym (c .before .holds .ensures) ∙ c .if1 .left))
 
 returns-2 : tie.Need-returns-2 Inv-loop μ-loop
 unfolding anyOf

@@ -2,11 +2,10 @@
 use mathlib.Core.Path.{_≡_, refl, subst, _∙_}
 use mathlib.Core.Bool.{Bool, true, false}
 use mathlib.Core.List.{List}
-use Prim.Native.Nat.{ℕ, _≤_}
+use Prim.Native.Nat.{ℕ}
 use native.Mathlib.Omega.{arith}
-use borrow.Author.Tests.{eqb-true, eq-eqb, le-leb}
+use borrow.Author.Tests.{eqb-true, eq-eqb}
 use lib.Dec.{eqb}
-use lib.ListN.{length}
 use Rattle.rules.specs.Lists.{if, has}
 use Rattle.rules.specs.TakingTokens.{none, took}
 use Rattle.rules.specs.TakingTokens as rules
@@ -15,20 +14,14 @@ use Rattle.rules.specs.PlainSheet.{offered, plainSource}
 use Rattle.rules.specs.RelatedSources.{mapTaken, mapReleased, Follows}
 use Rattle.rules.proofs.lists.Tests.{by-test}
 use Rattle.tables.specs.declared.Tables.{Tables}
-use Rattle.tables.specs.State.{State, InRange, soundOf}
+use Rattle.tables.specs.State.{State, soundOf}
 use Rattle.tables.specs.Taking.{takeOf}
 use Rattle.tables.specs.Releasing.{releaseOf}
 use Rattle.tables.specs.Matching.{Match, nobody, only}
 use Rattle.tables.specs.Calls.{safeTake, safeRelease, memorySource}
-use Rattle.tables.proofs.MatchTaking.{TakenMatch, take-match}
-use Rattle.tables.proofs.MatchReleasing.{release-match}
-
--- tables within their ranges are sound
-pub range-sound : (t : Tables) (m : List ℕ) → InRange t → 32768 ≤ length m → soundOf (t, m) ≡ true
-unfolding soundOf
-range-sound t m ok whole =
-    rw (le-leb 32768 (length m) whole, le-leb (t .tokens) 4096 (ok .tokens), le-leb (t .count) (t .tokens) (ok .count),
-      le-leb (t .first) (t .end) (ok .queue), le-leb (t .end) 4096 (ok .end), le-leb (t .held) 4096 (ok .held))
+use Rattle.tables.proofs.memory.Ranges.{range-sound}
+use Rattle.tables.proofs.matching.MatchTaking.{TakenMatch, take-match}
+use Rattle.tables.proofs.matching.MatchReleasing.{release-match}
 
 -- of sound tables the public calls are taking and releasing themselves
 pub safe-take : (x : State) → soundOf x ≡ true → safeTake x ≡ takeOf (x .0) (x .1)
@@ -97,11 +90,12 @@ module _ (tokens : ℕ) (numbers : ℕ → List ℕ) (others : (n : ℕ) → has
       takes (resting a x p) h = rule-takes (rules.take tokens numbers a) (takeOf (x .0) (x .1)) (take-match tokens numbers a (x .0) (x .1) p others)
       takes (holding n a x p) h = absurd (h refl)
 
-      releases : (d : ℕ) (j : Joint tokens numbers) → (releaseJoint d j ≡ Broken → ⊥) → Passed (rules.release d (ruleSide j)) ≡ mapReleased ruleSide (releaseJoint d j)
+      releases : (d : ℕ) (j : Joint tokens numbers) → (releaseJoint d j ≡ Broken → ⊥) →
+          Passed (rules.release d (ruleSide j)) ≡ mapReleased ruleSide (releaseJoint d j)
       releases d (resting a x p) h = absurd (h refl)
       releases d (holding n a x p) h = by-test (eqb d n)
-        (λ e. rw (e, eqb-true d n e))
-        (λ e. absurd (h (rw e)))
+          (λ e. rw (e, eqb-true d n e))
+          (λ e. absurd (h (rw e)))
 
   -- the memory's side follows
   memory-takes : (r : rules.Taken) (o : Outcome State) (p : TakenMatch tokens numbers r o) → o ≡ mapTaken memorySide (joined r o p)
@@ -114,14 +108,16 @@ module _ (tokens : ℕ) (numbers : ℕ → List ℕ) (others : (n : ℕ) → has
   memory-follows = record { takes = takes; releases = releases; sounds = sounds }
     where
       takes : (j : Joint tokens numbers) → (takeJoint j ≡ Spoiled → ⊥) → memorySource .take (memorySide j) ≡ mapTaken memorySide (takeJoint j)
-      takes (resting a x p) h = safe-take x (match-sound x p) ∙ memory-takes (rules.take tokens numbers a) (takeOf (x .0) (x .1)) (take-match tokens numbers a (x .0) (x .1) p others)
+      takes (resting a x p) h = safe-take x (match-sound x p)
+          ∙ memory-takes (rules.take tokens numbers a) (takeOf (x .0) (x .1)) (take-match tokens numbers a (x .0) (x .1) p others)
       takes (holding n a x p) h = absurd (h refl)
 
-      releases : (d : ℕ) (j : Joint tokens numbers) → (releaseJoint d j ≡ Broken → ⊥) → memorySource .release d (memorySide j) ≡ mapReleased memorySide (releaseJoint d j)
+      releases : (d : ℕ) (j : Joint tokens numbers) → (releaseJoint d j ≡ Broken → ⊥) →
+          memorySource .release d (memorySide j) ≡ mapReleased memorySide (releaseJoint d j)
       releases d (resting a x p) h = absurd (h refl)
       releases d (holding n a x p) h = by-test (eqb d n)
-        (λ e. rw (e, eqb-true d n e) (safe-release n x (match-sound x p) ∙ release-match tokens numbers a (x .0) (x .1) n p .1))
-        (λ e. absurd (h (rw e)))
+          (λ e. rw (e, eqb-true d n e) (safe-release n x (match-sound x p) ∙ release-match tokens numbers a (x .0) (x .1) n p .1))
+          (λ e. absurd (h (rw e)))
 
       sounds : (j : Joint tokens numbers) → soundOf (memorySide j) ≡ true
       sounds (resting a x p) = match-sound x p
@@ -129,7 +125,7 @@ module _ (tokens : ℕ) (numbers : ℕ → List ℕ) (others : (n : ℕ) → has
 
   -- the outcome of the rules' side tells that of both
   both-none : {z : rules.Tables} (r : rules.Taken) (o : Outcome State) (p : TakenMatch tokens numbers r o) → offered r ≡ Nothing z →
-    (y : State) × (q : Match tokens numbers z y nobody) × (joined r o p ≡ Nothing (resting z y q))
+      (y : State) × (q : Match tokens numbers z y nobody) × (joined r o p ≡ Nothing (resting z y q))
   unfolding joined
   both-none {z} (none a) o p e =
       let a-is : a ≡ z = cc in
@@ -137,7 +133,7 @@ module _ (tokens : ℕ) (numbers : ℕ → List ℕ) (others : (n : ℕ) → has
   both-none (took n a) o p e = let z : _≡_ {A = ℕ} 0 1 = cc in absurd (omega arith)
 
   both-took : {n : ℕ} {b : rules.Tables} (r : rules.Taken) (o : Outcome State) (p : TakenMatch tokens numbers r o) → offered r ≡ Took n b →
-    (y : State) × (q : Match tokens numbers b y (only n)) × (joined r o p ≡ Took n (holding n b y q))
+      (y : State) × (q : Match tokens numbers b y (only n)) × (joined r o p ≡ Took n (holding n b y q))
   unfolding joined
   both-took (none a) o p e = let z : _≡_ {A = ℕ} 0 1 = cc in absurd (omega arith)
   both-took {n} {b} (took k a) o p e =
@@ -147,7 +143,7 @@ module _ (tokens : ℕ) (numbers : ℕ → List ℕ) (others : (n : ℕ) → has
       (subst (λ b. (y : State) × (q : Match tokens numbers b y (only k)) × (joined (took k a) o p ≡ Took k (holding k b y q))) a-is (p .0, p .2, refl))
 
   both-release : {b c : rules.Tables} (n : ℕ) (y : State) (p : Match tokens numbers b y (only n)) → rules.release n b ≡ c →
-    (x : State) × (q : Match tokens numbers c x nobody) × (releaseJoint n (holding n b y p) ≡ Passed (resting c x q))
+      (x : State) × (q : Match tokens numbers c x nobody) × (releaseJoint n (holding n b y p) ≡ Passed (resting c x q))
   unfolding releaseJoint
   both-release {b} n y p e =
       let r = release-match tokens numbers b (y .0) (y .1) n p in
@@ -156,7 +152,7 @@ module _ (tokens : ℕ) (numbers : ℕ → List ℕ) (others : (n : ℕ) → has
 
   -- what the rules' tables write down, both write down together
   pub joint-writes : {a z : rules.Tables} {ts : List ℕ} → Writes (plainSource tokens numbers) a ts z → (x : State) (p : Match tokens numbers a x nobody) →
-    (y : State) × (q : Match tokens numbers z y nobody) × Writes jointSource (resting a x p) ts (resting z y q)
+      (y : State) × (q : Match tokens numbers z y nobody) × Writes jointSource (resting a x p) ts (resting z y q)
   unfolding takeJoint
   joint-writes (close {x = a} s e s′) x p =
       let (y, q, is) = both-none (rules.take tokens numbers a) (takeOf (x .0) (x .1)) (take-match tokens numbers a (x .0) (x .1) p others) e in

@@ -9,12 +9,11 @@ use lib.Dec.{leb, eqb}
 use lib.ListN.{length, getD, take, drop, List·getD-eq-default, drop-of-length-le}
 use lib.Seq.{drop-cons}
 use borrow.Author.Tests.{lt-ltb, le-ltb, le-leb, lt-leb, ne-eqb, leb-true}
-use Rattle.rules.specs.Lists.{if}
+use Rattle.rules.specs.Lists.{if, any}
 use Rattle.tables.specs.declared.Numbers.{Numbers}
 use Rattle.tables.specs.declared.Question.{Question}
 use Rattle.tables.specs.declared.Test.{Test}
 use Rattle.tables.specs.Facts.{standingOf, numbersAt, numbersOf, holdsOf, dueOf, leftOf, anyOf, freeOf, wakesOf, ofNumbers}
-use Rattle.rules.specs.Lists.{any}
 
 module _ (f : List ℕ) where
   -- no token has a number from 4,096 on
@@ -117,7 +116,7 @@ module _ (f : List ℕ) (t : ℕ) {r : Numbers} (numbers-are : r ≡ numbersOf f
   free-bad count e = rw (← numbers-are, e)
 
   pub free-part : (count : ℕ) {a b : ℕ} {x v : Bool} → r ≡ Numbers.Part a b → x ≡ anyOf f (Question.Due count t) (take (b - a) (drop a f))
-    → x ≡ v → if v Test.No Test.Yes ≡ freeOf f count t
+      → x ≡ v → if v Test.No Test.Yes ≡ freeOf f count t
   unfolding freeOf ofNumbers
   free-part count e h v-is = rw (← numbers-are, e, ← h, v-is)
 

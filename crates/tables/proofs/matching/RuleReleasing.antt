@@ -1,28 +1,28 @@
 -- A token's finish by the rules, against the tokens that wake by their records and the standings.
 use mathlib.Core.Path.{_≡_, refl, sym, ap, _∙_}
 use mathlib.Core.Bool.{Bool, true, false, not, true≢false}
-use mathlib.Core.List.{List, [], _∷_, _++_, map}
-use Prim.Native.Nat.{ℕ, _<_, _≤_}
+use mathlib.Core.List.{List, [], _∷_, _++_, map, map-id}
+use Prim.Native.Nat.{ℕ, _+_, _<_, _≤_}
 use native.Mathlib.Omega.{arith}
-use borrow.Author.Tests.{lt-leb, eq-eqb, ne-eqb, eqb-true, eqb-false, not-false}
+use borrow.Author.Tests.{lt-leb, eq-eqb, ne-eqb, eqb-true, eqb-false, not-true, not-false}
 use lib.Dec.{eqb}
-use Rattle.rules.specs.Lists.{if, keep, has, empty}
+use Rattle.rules.specs.Lists.{if, keep, has, empty, times, Every, any, Below}
 use Rattle.rules.specs.TakingTokens.{Held, tokensOf, lose}
 use Rattle.rules.specs.TakingTokens as rules
 use Rattle.tables.specs.declared.Test.{Test}
 use Rattle.tables.specs.Facts.{standingOf, leftOf, holdsOf, anyOf, ofNumbers, wakesOf}
-use Rattle.rules.specs.Lists.{any}
 use Rattle.tables.specs.Releasing.{isYes, isUnsound, wokenOf, stayingOf}
-use Rattle.rules.specs.Lists.{Below}
-use Rattle.tables.specs.Matching.{Recorded, Waiting, Standing, nobody, only}
-use Rattle.rules.proofs.lists.Tests.{if-same, by-test}
-use Rattle.rules.proofs.lists.Members.{has-append, keep-keep, empty-keep, keep-cong, any-third, any-none, below-append, below-keep, below-has, below-mono}
-use Rattle.rules.proofs.lists.Counting.{has-keep}
+use Rattle.tables.specs.Matching.{Recorded, Waits, Standing, nobody, only}
+use Rattle.rules.proofs.lists.Tests.{if-same, if-eta, by-test}
+use Rattle.rules.proofs.lists.Members.{has-append, keep-keep, empty-keep, keep-cong, any-third, any-none, below-has, below-mono}
+use Rattle.rules.proofs.lists.Counting.{has-keep, times-append, times-split}
+use Rattle.rules.proofs.lists.EveryLaws.{every-weaken, every-map, every-keep}
+use Rattle.tables.proofs.matching.StandingLaws.{table-low}
 
 module _ (f : List ℕ) (tokens d : ℕ) where
   -- what the answer about a token below N with a good record is
   wakes-is : (t : ℕ) (ns : List ℕ) → t < tokens → Recorded f t ns
-    → wakesOf f tokens d t ≡ if (any (leftOf f d) ns) Test.No (if (any (λ n. eqb n d) ns) Test.Yes Test.No)
+      → wakesOf f tokens d t ≡ if (any (leftOf f d) ns) Test.No (if (any (λ n. eqb n d) ns) Test.Yes Test.No)
   unfolding wakesOf ofNumbers anyOf holdsOf
   wakes-is t ns h r = rw (lt-leb tokens t h, r .2, r .3)
 
@@ -47,27 +47,31 @@ module _ (f : List ℕ) (tokens d : ℕ) where
 
   -- a token that waits for the numbers of its record that have not finished, and for some, wakes exactly if it then waits for none
   wakes-due : (t : ℕ) (ns due : List ℕ) → t < tokens → Recorded f t ns → due ≡ keep (λ n. not (eqb (standingOf f n) 3)) ns → empty due ≡ false
-    → isYes (wakesOf f tokens d t) ≡ empty (keep (λ n. not (eqb n d)) due)
+      → isYes (wakesOf f tokens d t) ≡ empty (keep (λ n. not (eqb n d)) due)
   wakes-due t ns due h r due-is some =
       let later : empty (keep (λ n. not (eqb n d)) due) ≡ not (any (leftOf f d) ns) =
-        rw (due-is, keep-keep (λ n. not (eqb n d)) (λ n. not (eqb (standingOf f n) 3)) ns)
-        (ap empty (keep-cong left-is ns) ∙ empty-keep (leftOf f d) ns) in
+      rw (due-is, keep-keep (λ n. not (eqb n d)) (λ n. not (eqb (standingOf f n) 3)) ns)
+      (ap empty (keep-cong left-is ns) ∙ empty-keep (leftOf f d) ns) in
       rw (wakes-is t ns h r, yes-is (any (leftOf f d) ns) (any (λ n. eqb n d) ns), later)
       (by-test (any (leftOf f d) ns)
       (λ e. rw e)
       (λ e. rw e
-        (any-third (λ n. not (eqb (standingOf f n) 3)) (leftOf f d) (λ n. eqb n d) third ns
-          (not-false (any (λ n. not (eqb (standingOf f n) 3)) ns) (sym (empty-keep (λ n. not (eqb (standingOf f n) 3)) ns) ∙ (rw due-is at some))) e)))
+      (any-third (λ n. not (eqb (standingOf f n) 3)) (leftOf f d) (λ n. eqb n d) third ns
+      (not-false (any (λ n. not (eqb (standingOf f n) 3)) ns) (sym (empty-keep (λ n. not (eqb (standingOf f n) 3)) ns) ∙ (rw due-is at some))) e)))
     where
       third : (n : ℕ) → not (eqb (standingOf f n) 3) ≡ true → leftOf f d n ≡ false → eqb n d ≡ true
       third n x y =
           by-test (eqb n d) (λ e. e)
           (λ e. absurd (true≢false (rw (← left-is n, x, e) at y)))
 
+-- an entry waits for the numbers of its record that have not finished pipe 0
+abbrev Unfinished : (ℕ → List ℕ) → (ℕ → ℕ) → Held → Type 0
+Unfinished numbers standing h = h .due ≡ keep (λ n. not (eqb (standing n) 3)) (numbers (h .token))
+
 module _ (numbers : ℕ → List ℕ) (f : List ℕ) (tokens d : ℕ) (records : (n : ℕ) → n < tokens → Recorded f n (numbers n)) where
   -- whether an entry then waits for none is whether its token wakes, for whatever is made of the answer
-  sorted : (g : Bool → Bool) (l : List Held) → Waiting numbers (standingOf f) l → Below tokens (tokensOf l)
-    → tokensOf (keep (λ h. g (empty (h .due))) (map (lose d) l)) ≡ keep (λ t. g (isYes (wakesOf f tokens d t))) (tokensOf l)
+  sorted : (g : Bool → Bool) (l : List Held) → Every (Waits numbers (standingOf f)) l → Below tokens (tokensOf l)
+      → tokensOf (keep (λ h. g (empty (h .due))) (map (lose d) l)) ≡ keep (λ t. g (isYes (wakesOf f tokens d t))) (tokensOf l)
   unfolding keep
   sorted g [] w b = refl
   sorted g (h ∷ l) w b =
@@ -75,13 +79,13 @@ module _ (numbers : ℕ → List ℕ) (f : List ℕ) (tokens d : ℕ) (records :
       (go (g (empty (keep (λ n. not (eqb n d)) (h .due)))) (sorted g l (w .1) (b .1)))
     where
       go : (x : Bool) → tokensOf (keep (λ h. g (empty (h .due))) (map (lose d) l)) ≡ keep (λ t. g (isYes (wakesOf f tokens d t))) (tokensOf l)
-        → tokensOf (if x (lose d h ∷ keep (λ h. g (empty (h .due))) (map (lose d) l)) (keep (λ h. g (empty (h .due))) (map (lose d) l)))
+          → tokensOf (if x (lose d h ∷ keep (λ h. g (empty (h .due))) (map (lose d) l)) (keep (λ h. g (empty (h .due))) (map (lose d) l)))
           ≡ if x (h .token ∷ keep (λ t. g (isYes (wakesOf f tokens d t))) (tokensOf l)) (keep (λ t. g (isYes (wakesOf f tokens d t))) (tokensOf l))
       go true e = ap (λ r. h .token ∷ r) e
       go false e = e
 
   -- the entries that wait for none, and those that still wait, are those whose tokens wake, and stay
-  module _ (l : List Held) (w : Waiting numbers (standingOf f) l) (b : Below tokens (tokensOf l)) where
+  module _ (l : List Held) (w : Every (Waits numbers (standingOf f)) l) (b : Below tokens (tokensOf l)) where
     pub woken-are : tokensOf (keep (λ h. empty (h .due)) (map (lose d) l)) ≡ wokenOf (wakesOf f tokens d) (tokensOf l)
     unfolding wokenOf
     woken-are = sorted (λ x. x) l w b
@@ -95,31 +99,28 @@ module _ (numbers : ℕ → List ℕ) (f : List ℕ) (tokens d : ℕ) (records :
   none-unsound l b =
       any-none (λ t. isUnsound (wakesOf f tokens d t)) l
       (λ t h. let low : t < tokens = below-has tokens l t b h in
-        rw (wakes-is f tokens d t (numbers t) low (records t low)) (sound-is f tokens d (any (leftOf f d) (numbers t)) (any (λ n. eqb n d) (numbers t))))
+      rw (wakes-is f tokens d t (numbers t) low (records t low)) (sound-is f tokens d (any (leftOf f d) (numbers t)) (any (λ n. eqb n d) (numbers t))))
 
   -- the entries that still wait do so for the numbers that have not finished now
-  pub waiting-after : (new : ℕ → ℕ) → ((n : ℕ) → leftOf f d n ≡ not (eqb (new n) 3)) → (l : List Held) → Waiting numbers (standingOf f) l
-    → Waiting numbers new (keep (λ h. not (empty (h .due))) (map (lose d) l))
-  unfolding keep
-  waiting-after new same [] w = tt
-  waiting-after new same (h ∷ l) w = go (empty (keep (λ n. not (eqb n d)) (h .due))) refl (waiting-after new same l (w .1))
+  pub waiting-after : (new : ℕ → ℕ) → ((n : ℕ) → leftOf f d n ≡ not (eqb (new n) 3)) → (l : List Held) → Every (Waits numbers (standingOf f)) l
+      → Every (Waits numbers new) (keep (λ h. not (empty (h .due))) (map (lose d) l))
+  waiting-after new same l w =
+      every-weaken (λ h. Unfinished numbers new h × (not (empty (h .due)) ≡ true)) (Waits numbers new)
+      (λ h x. (x .0, not-true (empty (h .due)) (x .1))) (keep (λ h. not (empty (h .due))) (map (lose d) l))
+      (every-keep (Unfinished numbers new) (λ h. not (empty (h .due))) (map (lose d) l)
+      (every-map (Waits numbers (standingOf f)) (Unfinished numbers new) (lose d) due-is l w))
     where
-      due-is : keep (λ n. not (eqb n d)) (h .due) ≡ keep (λ n. not (eqb (new n) 3)) (numbers (h .token))
-      due-is =
-          rw (w .0 .0, keep-keep (λ n. not (eqb n d)) (λ n. not (eqb (standingOf f n) 3)) (numbers (h .token)))
+      due-is : (h : Held) → Waits numbers (standingOf f) h → Unfinished numbers new (lose d h)
+      due-is h w =
+          rw (w .0, keep-keep (λ n. not (eqb n d)) (λ n. not (eqb (standingOf f n) 3)) (numbers (h .token)))
           (keep-cong (λ n. left-is f tokens d n ∙ same n) (numbers (h .token)))
-
-      go : (x : Bool) → empty (keep (λ n. not (eqb n d)) (h .due)) ≡ x → Waiting numbers new (keep (λ h. not (empty (h .due))) (map (lose d) l))
-        → Waiting numbers new (if (not x) (lose d h ∷ keep (λ h. not (empty (h .due))) (map (lose d) l)) (keep (λ h. not (empty (h .due))) (map (lose d) l)))
-      go true e later = later
-      go false e later = ((due-is, e), later)
 
 -- the standings after a token's finish: 3 for it, and 2 for those that woke
 abbrev pub finished : (ℕ → ℕ) → ℕ → List ℕ → ℕ → ℕ
 finished standing d woken n = if (eqb d n) 3 (if (has woken n) 2 (standing n))
 
 module _ (numbers : ℕ → List ℕ) (f : List ℕ) (tokens d : ℕ) (records : (n : ℕ) → n < tokens → Recorded f n (numbers n))
-  (a : rules.Tables) (s : Standing numbers a (standingOf f) (only d)) (inside : a .count ≤ tokens) where
+    (a : rules.Tables) (s : Standing numbers a (standingOf f) (only d)) (inside : a .count ≤ tokens) where
   table : List ℕ
   table = tokensOf (a .deferred)
 
@@ -164,20 +165,20 @@ module _ (numbers : ℕ → List ℕ) (f : List ℕ) (tokens d : ℕ) (records :
       by-test (eqb d n)
       (λ e. rw (e, eq-eqb n d (sym (eqb-true d n e))) (if-same (eqb (standingOf f n) 3) false))
       (λ e. rw (e, ne-eqb n d (λ x. eqb-false d n e (sym x)))
-        (by-test (has woken n)
-        (λ h. rw (h, woken-was n h))
-        (λ h. rw h (if-not (eqb (standingOf f n) 3)))))
+      (by-test (has woken n)
+      (λ h. rw (h, woken-was n h))
+      (λ h. rw h (if-not (eqb (standingOf f n) 3)))))
 
   new-marked : (n : ℕ) → has staying n ≡ eqb (new n) 1
   unfolding new table
   new-marked n =
       rw (has-staying n)
       (by-test (eqb d n)
-      (λ e. rw (e, s .outside n e .0) (if-same (not (wakes n)) false))
+      (λ e. rw (e, s .marked n, s .outside n e .0) (if-same (not (wakes n)) false))
       (λ e. rw (e, has-woken n)
-        (by-test (wakes n)
-        (λ h. rw h (by-test (has (tokensOf (a .deferred)) n) (λ x. rw x) (λ x. rw x (sym (sym (s .marked n) ∙ x)))))
-        (λ h. rw h (s .marked n)))))
+      (by-test (wakes n)
+      (λ h. rw h (by-test (has (tokensOf (a .deferred)) n) (λ x. rw x) (λ x. rw x (sym (sym (s .marked n) ∙ x)))))
+      (λ h. rw h (s .marked n)))))
 
   new-settled : (n : ℕ) → n < a .count → has staying n ≡ false → has (a .ready ++ woken) n ≡ false → new n ≡ 3
   unfolding new table
@@ -188,41 +189,50 @@ module _ (numbers : ℕ → List ℕ) (f : List ℕ) (tokens d : ℕ) (records :
       by-test (eqb d n)
       (λ e. rw e)
       (λ e. rw (e, none-woken)
-        (s .settled n l
-          (by-test (wakes n) (λ h. rw (has-woken n, h) at none-woken) (λ h. rw (has-staying n, h) at x))
-          none-ready e))
+      (s .settled n l
+      (by-test (wakes n) (λ h. rw (has-woken n, h) at none-woken) (λ h. rw (has-staying n, h) at x))
+      none-ready e))
 
-  new-apart : (n : ℕ) → has (a .ready ++ woken) n ≡ true → has staying n ≡ false
-  unfolding table
-  new-apart n y =
-      let y′ : if (has (a .ready) n) true (has woken n) ≡ true = rw (has-append (a .ready) woken n) at y in
-      rw (has-staying n)
-      (by-test (has (a .ready) n)
-      (λ h. rw (s .apart n h) (if-same (not (wakes n)) false))
-      (λ h. by-test (wakes n)
-        (λ w. rw w)
-        (λ w. absurd (true≢false (sym (rw (h, has-woken n, w) at y′))))))
+  -- the token that finishes was in neither
+  new-queued : (n : ℕ) → has (a .ready ++ woken) n ≡ eqb (new n) 2
+  unfolding new
+  new-queued n =
+      rw (has-append (a .ready) woken n, s .queued n)
+      (by-test (eqb d n)
+      (λ e. rw (e, s .outside n e .0)
+      (by-test (has woken n) (λ h. let z : _≡_ {A = ℕ} 0 1 = sym (s .outside n e .0) ∙ woken-was n h in absurd (omega arith)) (λ h. h)))
+      (λ e. rw e
+      (by-test (has woken n)
+      (λ h. rw h (if-same (eqb (standingOf f n) 2) true))
+      (λ h. rw h (if-eta (eqb (standingOf f n) 2))))))
+
+  new-once : (n : ℕ) → times n staying + times n (a .ready ++ woken) ≤ 1
+  unfolding staying stayingOf woken wokenOf
+  new-once n =
+      let split = times-split (λ t. t) (λ t. isYes (wakesOf f tokens d t)) n (tokensOf (a .deferred)) in
+      rw (times-append n (a .ready) (keep (λ t. isYes (wakesOf f tokens d t)) (tokensOf (a .deferred))))
+      (omega (arith, s .once n, simp map-id at split))
 
   new-fresh : (n : ℕ) → a .count ≤ n → new n ≡ 0
   unfolding new
   new-fresh n l =
       let other : eqb d n ≡ false = ne-eqb d n (λ e. omega (arith, s .outside d (eq-eqb d d refl) .1)) in
       let none-woken : has woken n ≡ false =
-        by-test (has woken n) (λ h. let z : _≡_ {A = ℕ} 0 1 = sym (s .fresh n l) ∙ woken-was n h in absurd (omega arith)) (λ h. h) in
+      by-test (has woken n) (λ h. let z : _≡_ {A = ℕ} 0 1 = sym (s .fresh n l) ∙ woken-was n h in absurd (omega arith)) (λ h. h) in
       rw (other, none-woken) (s .fresh n l)
 
   pub release-standing : Standing numbers (rules.release d a) (finished (standingOf f) d (wokenOf (wakesOf f tokens d) (tokensOf (a .deferred)))) nobody
   unfolding rules.release new woken staying wokenOf stayingOf
   release-standing =
-      let low : Below tokens (tokensOf (a .deferred)) = below-mono (tokensOf (a .deferred)) inside (s .low) in
+      let low : Below tokens (tokensOf (a .deferred)) = below-mono (tokensOf (a .deferred)) inside (table-low s) in
       let w-is = woken-are numbers f tokens d records (a .deferred) (s .waiting) low in
       let s-is = staying-are numbers f tokens d records (a .deferred) (s .waiting) low in
       record {
         waiting = waiting-after numbers f tokens d records new left-new (a .deferred) (s .waiting);
         marked = λ n. rw s-is (new-marked n);
+        queued = λ n. rw w-is (new-queued n);
+        once = λ n. rw (s-is, w-is) (new-once n);
         fresh = new-fresh;
         settled = λ n l x y o. new-settled n l (rw s-is at x) (rw w-is at y);
-        apart = λ n y. rw s-is (new-apart n (rw w-is at y));
         outside = λ n o. absurd (true≢false (sym o));
-        low = rw s-is (below-keep (a .count) (λ t. not (isYes (wakesOf f tokens d t))) (tokensOf (a .deferred)) (s .low));
-        low-ready = rw w-is (below-append (a .count) (a .ready) _ (s .low-ready) (below-keep (a .count) (λ t. isYes (wakesOf f tokens d t)) (tokensOf (a .deferred)) (s .low))) }
+      }

@@ -6,27 +6,26 @@ use Prim.Native.Nat.{ℕ, suc, _+_, _-_, _<_, _≤_}
 use native.Mathlib.Omega.{arith}
 use borrow.Author.Tests.{ltb-true, leb-true, leb-false}
 use lib.Dec.{leb, ltb}
-use lib.ListN.{length, getD, take, drop, set, replicate, length-append, length-set, length-replicate, List·getD-append}
+use lib.ListN.{length, take, drop, set, replicate, length-append, length-set, length-replicate, List·getD-append}
 use lib.Seq.{sets, length-sets, set-append-left, take-append-le}
-use Rattle.rules.specs.Lists.{has}
+use Rattle.rules.specs.Lists.{has, range, Below}
 use Rattle.rules.specs.Sources.{Taken as Outcome, Spoiled, Nothing, Took, Released, Broken, Passed}
 use Rattle.rules.specs.RelatedSources.{mapTaken, mapReleased, Follows}
 use Rattle.rules.proofs.lists.Tests.{by-test}
 use Rattle.tables.specs.declared.Tables.{Tables}
 use Rattle.tables.specs.declared.Count.{Count}
-use Rattle.tables.specs.Facts.{factsOf}
+use Rattle.tables.specs.Layout.{factsOf}
 use Rattle.tables.specs.State.{InRange, soundOf, span, marks, tableOf}
-use Rattle.rules.specs.Lists.{range}
-use Rattle.tables.specs.Taking.{findOf, deferredUpto, takeUpto, takeReady, takeOf}
-use Rattle.tables.specs.Releasing.{wokenIn, stayingIn, unsoundIn, movedTables, movedMemory, releaseOf}
-use Rattle.rules.specs.Lists.{Below}
+use Rattle.tables.specs.Taking.{findOf, deferredUpto, oldestOf, takeUpto, takeReady, takeOf}
+use Rattle.tables.specs.Releasing.{wokenIn, stayingIn, unsoundIn, movedBy, movedTables, movedMemory, releaseOf}
 use Rattle.tables.specs.Matching.{beyond}
 use Rattle.tables.specs.Calls.{safeTake, safeRelease, memorySource}
 use Rattle.rules.proofs.lists.Members.{below-range, length-range}
-use Rattle.tables.proofs.MemoryLaws.{length-marks}
-use Rattle.tables.proofs.Moves.{staying-length, woken-below}
-use Rattle.tables.proofs.TakingLaws.{found-within}
-use Rattle.tables.proofs.Joint.{Joint, memorySide, sides-match, takeJoint, releaseJoint, jointSource, memory-follows, range-sound, safe-take, safe-release}
+use Rattle.tables.proofs.memory.MemoryLaws.{length-marks}
+use Rattle.tables.proofs.code.Moves.{staying-length, woken-below}
+use Rattle.tables.proofs.code.TakingLaws.{found-within}
+use Rattle.tables.proofs.memory.Ranges.{range-sound}
+use Rattle.tables.proofs.sources.Joint.{Joint, memorySide, sides-match, takeJoint, releaseJoint, jointSource, memory-follows, safe-take, safe-release}
 
 module _ (r : List ℕ) where
   -- stores and marks within a list
@@ -42,9 +41,7 @@ module _ (r : List ℕ) where
 
   -- the passes of a release
   passes-beyond : (m woken staying : List ℕ) (end held d : ℕ) → 32768 ≤ length m → end + length woken ≤ 4096 → length staying ≤ held → held ≤ 4096 →
-      Below 4096 woken → d < 4096 →
-      set (marks (sets (sets (sets (m ++ r) (28672 + end) woken) 24576 staying) (24576 + length staying) (replicate (held - length staying) 0)) 2 woken) (20480 + d) 3
-      ≡ set (marks (sets (sets (sets m (28672 + end) woken) 24576 staying) (24576 + length staying) (replicate (held - length staying) 0)) 2 woken) (20480 + d) 3 ++ r
+      Below 4096 woken → d < 4096 → movedBy (m ++ r) end held d woken staying ≡ movedBy m end held d woken staying ++ r
   passes-beyond m woken staying end held d whole room short most low inside =
       let queued : List ℕ = sets m (28672 + end) woken in
       let queued-length : length queued ≡ length m = length-sets m (28672 + end) woken in
@@ -74,27 +71,30 @@ module _ (r : List ℕ) where
       deferred-beyond : deferredUpto t upto (m ++ r) ≡ deferredUpto t upto m ++ r
       unfolding deferredUpto
       deferred-beyond =
-          ap (λ (l : List ℕ). marks l 1 (span (t .count) upto)) (sets-beyond (span (t .count) upto) m (24576 + t .held) (omega (arith, length-range (t .count) (upto - t .count))))
+          ap (λ (l : List ℕ). marks l 1 (span (t .count) upto))
+          (sets-beyond (span (t .count) upto) m (24576 + t .held) (omega (arith, length-range (t .count) (upto - t .count))))
           ∙ marks-beyond 1 (span (t .count) upto) (sets m (24576 + t .held) (span (t .count) upto))
-            (below-range 4096 (t .count) (upto - t .count) (omega (arith, ok .tokens, ok .count))) (rw length-sets whole)
+          (below-range 4096 (t .count) (upto - t .count) (omega (arith, ok .tokens, ok .count))) (rw length-sets whole)
 
     upto-beyond : (c : Count) → findOf (factsOf m) (t .tokens) (t .count) ≡ c → takeUpto t (m ++ r) c ≡ mapTaken (beyond r) (takeUpto t m c)
     unfolding takeUpto
     upto-beyond Count.Unknown found = refl
     upto-beyond (Count.Known upto) found = by-test (leb (t .held + (upto - t .count)) 4096)
-      (λ room.
+        (λ room.
         let high = found-within (factsOf m) (t .tokens) (t .count) (ok .count) (sym found) refl in
         rw (room, deferred-beyond upto (high .1) (leb-true _ _ room)) (by-test (ltb upto (t .tokens)) (λ e. rw e) (λ e. rw e)))
-      (λ full. rw full)
+        (λ full. rw full)
 
     take-beyond : takeOf t (m ++ r) ≡ mapTaken (beyond r) (takeOf t m)
     unfolding takeOf takeReady
     take-beyond = by-test (ltb (t .first) (t .end))
-      (λ e.
+        (λ e.
         let some : t .first < t .end = ltb-true _ _ e in
         rw (e, List·getD-append m r 0 (28672 + t .first) (omega (arith, ok .end)))
-        (by-test (ltb (getD m (28672 + t .first) 0) (t .tokens)) (λ e. rw e) (λ e. rw e)))
-      (λ e. rw (e, facts-beyond) (upto-beyond (findOf (factsOf m) (t .tokens) (t .count)) refl))
+        (by-test (ltb (oldestOf t m) (t .tokens))
+        (λ low. rw (low, set-append-left m r (20480 + oldestOf t m) 0 (omega (arith, ltb-true (oldestOf t m) (t .tokens) low, ok .tokens))))
+        (λ high. rw high)))
+        (λ e. rw (e, facts-beyond) (upto-beyond (findOf (factsOf m) (t .tokens) (t .count)) refl))
 
     -- a token's finish
     woken-same : (d : ℕ) → wokenIn t d (m ++ r) ≡ wokenIn t d m
@@ -116,12 +116,12 @@ module _ (r : List ℕ) where
     release-beyond : (d : ℕ) → releaseOf t d (m ++ r) ≡ mapReleased (beyond r) (releaseOf t d m)
     unfolding releaseOf movedTables
     release-beyond d = by-test (leb (t .tokens) d)
-      (λ e. rw e)
-      (λ e. rw (e, unsound-same d, woken-same d, staying-same d) (by-test (unsoundIn t d m)
+        (λ e. rw e)
+        (λ e. rw (e, unsound-same d, woken-same d, staying-same d) (by-test (unsoundIn t d m)
         (λ u. rw u)
         (λ u. rw u (by-test (leb (t .end + length (wokenIn t d m)) 4096)
-          (λ room. rw (room, moved-beyond d (leb-false _ _ e) (leb-true _ _ room)))
-          (λ full. rw full)))))
+        (λ room. rw (room, moved-beyond d (leb-false _ _ e) (leb-true _ _ room)))
+        (λ full. rw full)))))
 
     -- the public calls
     sound-beyond : soundOf (t, m ++ r) ≡ true
@@ -155,13 +155,15 @@ module _ (r : List ℕ) where
             memorySource .take (beyond r (memorySide j)) ≡ mapTaken (λ j. beyond r (memorySide j)) (takeJoint tokens numbers others j)
         takes j n =
             let p = sides-match j .1 in
-            safe-take-beyond (memorySide j .0) (memorySide j .1) (p .range) (p .whole) ∙ ap (mapTaken (beyond r)) (memory .takes j n) ∙ taken-twice (takeJoint tokens numbers others j)
+            safe-take-beyond (memorySide j .0) (memorySide j .1) (p .range) (p .whole) ∙ ap (mapTaken (beyond r)) (memory .takes j n)
+            ∙ taken-twice (takeJoint tokens numbers others j)
 
         releases : (d : ℕ) (j : Joint tokens numbers) → (releaseJoint tokens numbers others d j ≡ Broken → ⊥) →
             memorySource .release d (beyond r (memorySide j)) ≡ mapReleased (λ j. beyond r (memorySide j)) (releaseJoint tokens numbers others d j)
         releases d j n =
             let p = sides-match j .1 in
-            safe-release-beyond (memorySide j .0) (memorySide j .1) (p .range) (p .whole) d ∙ ap (mapReleased (beyond r)) (memory .releases d j n) ∙ released-twice (releaseJoint tokens numbers others d j)
+            safe-release-beyond (memorySide j .0) (memorySide j .1) (p .range) (p .whole) d ∙ ap (mapReleased (beyond r)) (memory .releases d j n)
+            ∙ released-twice (releaseJoint tokens numbers others d j)
 
         sounds : (j : Joint tokens numbers) → soundOf (beyond r (memorySide j)) ≡ true
         sounds j =

@@ -8,17 +8,10 @@ use lib.ListN.{length, getD, set, take, drop, length-set}
 use lib.Seq.{sets, slice, take-set-le, drop-set-lt}
 use Rattle.tables.specs.Facts.{wakesOf}
 use Rattle.tables.specs.State.{marks}
-use Rattle.tables.specs.Releasing.{isYes, wokenOf, stayingOf}
+use Rattle.tables.specs.Releasing.{isYes, wokenFrom, stayingFrom}
 use Rattle.rules.specs.Lists.{Below}
-use Rattle.tables.proofs.StateLaws.{take-less, drop-more, cell-below, cell-from, sets-store, sets-none, marks-store, marks-none}
-use Rattle.tables.proofs.ReleasingLaws.{cells-next, cells-end, woken-yes, woken-no, woken-end, staying-yes, staying-no, staying-end, seen}
-
--- the tokens that wake, or stay, from a cell on, as the memory was at first
-abbrev pub wakeFrom : List ℕ → ℕ → ℕ → ℕ → ℕ → List ℕ
-wakeFrom m tokens d last cell = wokenOf (wakesOf (take 24576 m) tokens d) (slice cell last m)
-
-abbrev pub stayFrom : List ℕ → ℕ → ℕ → ℕ → ℕ → List ℕ
-stayFrom m tokens d last cell = stayingOf (wakesOf (take 24576 m) tokens d) (slice cell last m)
+use Rattle.tables.proofs.memory.Cells.{take-less, drop-more, cell-below, cell-from, sets-store, sets-none, marks-store, marks-none}
+use Rattle.tables.proofs.code.ReleasingLaws.{cells-next, cells-end, woken-yes, woken-no, woken-end, staying-yes, staying-no, staying-end, seen}
 
 -- appending to the ready queue: all below it is as at first, and what is left to append gives the whole
 pub record Appending (m₀ : List ℕ) (tokens d last end : ℕ) (m : List ℕ) (at cell : ℕ) : Type 0 where
@@ -28,9 +21,9 @@ pub record Appending (m₀ : List ℕ) (tokens d last end : ℕ) (m : List ℕ) 
   pub from : 24576 ≤ cell
   pub upto : cell ≤ last
   pub high : 28672 ≤ at
-  pub room : at + length (wakeFrom m₀ tokens d last cell) ≤ 32768
+  pub room : at + length (wokenFrom m₀ tokens d cell last) ≤ 32768
   pub same : take 28672 m ≡ take 28672 m₀
-  pub left : sets m₀ end (wakeFrom m₀ tokens d last 24576) ≡ sets m at (wakeFrom m₀ tokens d last cell)
+  pub left : sets m₀ end (wokenFrom m₀ tokens d 24576 last) ≡ sets m at (wokenFrom m₀ tokens d cell last)
 
 -- closing up the deferred table: the facts and the cells not yet read are as at first
 pub record Closing (m₀ : List ℕ) (tokens d last : ℕ) (m : List ℕ) (at cell : ℕ) : Type 0 where
@@ -42,18 +35,19 @@ pub record Closing (m₀ : List ℕ) (tokens d last : ℕ) (m : List ℕ) (at ce
   pub upto : cell ≤ last
   pub same : take 24576 m ≡ take 24576 m₀
   pub ahead : drop cell m ≡ drop cell m₀
-  pub end : 24576 + length (stayFrom m₀ tokens d last 24576) ≡ at + length (stayFrom m₀ tokens d last cell)
-  pub left : sets m₀ 24576 (stayFrom m₀ tokens d last 24576) ≡ sets m at (stayFrom m₀ tokens d last cell)
+  pub end : 24576 + length (stayingFrom m₀ tokens d 24576 last) ≡ at + length (stayingFrom m₀ tokens d cell last)
+  pub left : sets m₀ 24576 (stayingFrom m₀ tokens d 24576 last) ≡ sets m at (stayingFrom m₀ tokens d cell last)
 
 module _ {m₀ : List ℕ} {tokens d last : ℕ} {m : List ℕ} {at cell : ℕ} {r : Bool} where
-  module _ {end : ℕ} (inv : Appending m₀ tokens d last end m at cell) (more : cell < last) (test : r ≡ isYes (wakesOf (take 24576 m) tokens d (getD m cell 0))) where
+  module _ {end : ℕ} (inv : Appending m₀ tokens d last end m at cell) (more : cell < last)
+      (test : r ≡ isYes (wakesOf (take 24576 m) tokens d (getD m cell 0))) where
     token-is : getD m cell 0 ≡ getD m₀ cell 0
     token-is = cell-below m₀ m 28672 cell (inv .same) (omega arith)
 
     test₀ : r ≡ isYes (wakesOf (take 24576 m₀) tokens d (getD m₀ cell 0))
     test₀ = seen tokens d (take-less m₀ m 28672 24576 (inv .same) (omega arith)) token-is test
 
-    first-wakes : r ≡ true → wakeFrom m₀ tokens d last cell ≡ getD m₀ cell 0 ∷ wakeFrom m₀ tokens d last (cell + 1)
+    first-wakes : r ≡ true → wokenFrom m₀ tokens d cell last ≡ getD m₀ cell 0 ∷ wokenFrom m₀ tokens d (cell + 1) last
     first-wakes e = woken-yes (wakesOf (take 24576 m₀) tokens d) m₀ cell last more (omega arith) test₀ e
 
     pub append-room : r ≡ true → at < 32768
@@ -70,12 +64,13 @@ module _ {m₀ : List ℕ} {tokens d last : ℕ} {m : List ℕ} {at cell : ℕ} 
           high = omega arith;
           room = omega (arith, ap length (first-wakes e), inv .room);
           same = take-set-le 28672 m at (getD m cell 0) (inv .high) ∙ inv .same;
-          left = sets-store m at (inv .left) (first-wakes e) token-is }
+          left = sets-store m at (inv .left) (first-wakes e) token-is;
+        }
 
     pub append-no : r ≡ false → Appending m₀ tokens d last end m at (cell + 1)
     append-no e =
-        let rest : wakeFrom m₀ tokens d last cell ≡ wakeFrom m₀ tokens d last (cell + 1) =
-          woken-no (wakesOf (take 24576 m₀) tokens d) m₀ cell last more (omega arith) test₀ e in
+        let rest : wokenFrom m₀ tokens d cell last ≡ wokenFrom m₀ tokens d (cell + 1) last =
+        woken-no (wakesOf (take 24576 m₀) tokens d) m₀ cell last more (omega arith) test₀ e in
         record {
           whole = inv .whole;
           inside = inv .inside;
@@ -85,7 +80,8 @@ module _ {m₀ : List ℕ} {tokens d last : ℕ} {m : List ℕ} {at cell : ℕ} 
           high = inv .high;
           room = rw rest at (inv .room);
           same = inv .same;
-          left = rw rest at (inv .left) }
+          left = rw rest at (inv .left);
+        }
 
   module _ (inv : Closing m₀ tokens d last m at cell) (more : cell < last) (test : r ≡ isYes (wakesOf (take 24576 m) tokens d (getD m cell 0))) where
     closing-token : getD m cell 0 ≡ getD m₀ cell 0
@@ -96,8 +92,8 @@ module _ {m₀ : List ℕ} {tokens d last : ℕ} {m : List ℕ} {at cell : ℕ} 
 
     pub close-yes : r ≡ true → Closing m₀ tokens d last m at (cell + 1)
     close-yes e =
-        let rest : stayFrom m₀ tokens d last cell ≡ stayFrom m₀ tokens d last (cell + 1) =
-          staying-yes (wakesOf (take 24576 m₀) tokens d) m₀ cell last more (omega arith) closing-test e in
+        let rest : stayingFrom m₀ tokens d cell last ≡ stayingFrom m₀ tokens d (cell + 1) last =
+        staying-yes (wakesOf (take 24576 m₀) tokens d) m₀ cell last more (omega arith) closing-test e in
         record {
           whole = inv .whole;
           inside = inv .inside;
@@ -108,12 +104,13 @@ module _ {m₀ : List ℕ} {tokens d last : ℕ} {m : List ℕ} {at cell : ℕ} 
           same = inv .same;
           ahead = drop-more m₀ m cell (cell + 1) (inv .ahead) (omega arith);
           end = rw rest at (inv .end);
-          left = rw rest at (inv .left) }
+          left = rw rest at (inv .left);
+        }
 
     pub close-no : r ≡ false → Closing m₀ tokens d last (set m at (getD m cell 0)) (at + 1) (cell + 1)
     close-no e =
-        let rest : stayFrom m₀ tokens d last cell ≡ getD m₀ cell 0 ∷ stayFrom m₀ tokens d last (cell + 1) =
-          staying-no (wakesOf (take 24576 m₀) tokens d) m₀ cell last more (omega arith) closing-test e in
+        let rest : stayingFrom m₀ tokens d cell last ≡ getD m₀ cell 0 ∷ stayingFrom m₀ tokens d (cell + 1) last =
+        staying-no (wakesOf (take 24576 m₀) tokens d) m₀ cell last more (omega arith) closing-test e in
         record {
           whole = inv .whole;
           inside = inv .inside;
@@ -124,22 +121,23 @@ module _ {m₀ : List ℕ} {tokens d last : ℕ} {m : List ℕ} {at cell : ℕ} 
           same = take-set-le 24576 m at (getD m cell 0) (inv .from) ∙ inv .same;
           ahead = drop-set-lt (cell + 1) m at (getD m cell 0) (omega arith) ∙ drop-more m₀ m cell (cell + 1) (inv .ahead) (omega arith);
           end = inv .end ∙ omega (arith, ap length rest);
-          left = sets-store m at (inv .left) rest closing-token }
+          left = sets-store m at (inv .left) rest closing-token;
+        }
 
 -- at the last cell nothing is left
 pub append-end : {m₀ : List ℕ} {tokens d last end : ℕ} {m : List ℕ} {at cell : ℕ} → Appending m₀ tokens d last end m at cell → last ≤ cell
-  → m ≡ sets m₀ end (wakeFrom m₀ tokens d last 24576)
+    → m ≡ sets m₀ end (wokenFrom m₀ tokens d 24576 last)
 append-end {m₀} {tokens} {d} {last} {end} {m} {at} {cell} inv h =
     sets-none m at (inv .left) (woken-end (wakesOf (take 24576 m₀) tokens d) m₀ cell last (inv .upto) h)
 
 module _ {m₀ : List ℕ} {tokens d last : ℕ} {m : List ℕ} {at cell : ℕ} (inv : Closing m₀ tokens d last m at cell) (h : last ≤ cell) where
-  close-none : stayFrom m₀ tokens d last cell ≡ []
+  close-none : stayingFrom m₀ tokens d cell last ≡ []
   close-none = staying-end (wakesOf (take 24576 m₀) tokens d) m₀ cell last (inv .upto) h
 
-  pub close-end : at ≡ 24576 + length (stayFrom m₀ tokens d last 24576)
+  pub close-end : at ≡ 24576 + length (stayingFrom m₀ tokens d 24576 last)
   close-end = omega (arith, inv .end, ap length close-none)
 
-  pub close-memory : m ≡ sets m₀ 24576 (stayFrom m₀ tokens d last 24576)
+  pub close-memory : m ≡ sets m₀ 24576 (stayingFrom m₀ tokens d 24576 last)
   close-memory = sets-none m at (inv .left) close-none
 
 -- marking the tokens in some cells: these cells are as at first, and their tokens are below 4,096
@@ -174,4 +172,5 @@ module _ {m₀ : List ℕ} {from to : ℕ} {m : List ℕ} {cell : ℕ} (inv : Ma
           upto = omega arith;
           same = drop-set-lt 24576 m (20480 + u) 2 (omega arith) ∙ inv .same;
           below = marking-below .1;
-          left = marks-store m 2 (inv .left) (cells-next m₀ cell to more inside) (u-is ∙ marking-token) }
+          left = marks-store m 2 (inv .left) (cells-next m₀ cell to more inside) (u-is ∙ marking-token);
+        }

@@ -9,16 +9,16 @@ use native.Mathlib.Nat.{add-zero}
 use lib.ListN.{length, getD, take}
 use lib.Seq.{slice, slice-cons, slice-empty}
 use borrow.Author.Tests.{le-leb, lt-leb}
-use Rattle.rules.specs.Lists.{if, keep}
+use Rattle.rules.specs.Lists.{if, keep, any}
 use Rattle.rules.specs.Sources.{Released as Outcome, Broken, Passed}
 use Rattle.tables.specs.declared.Tables.{Tables}
 use Rattle.tables.specs.declared.Released.{Released}
 use Rattle.tables.specs.declared.Test.{Test}
 use Rattle.tables.specs.declared.Count.{Count}
 use Rattle.tables.specs.Facts.{wakesOf}
-use Rattle.rules.specs.Lists.{any}
 use Rattle.tables.specs.State.{State}
-use Rattle.tables.specs.Releasing.{isYes, wokenOf, stayingOf, tallyOf, wokenIn, unsoundIn, movedTables, movedMemory, releaseOf, releasedOf, releasedMemory}
+use Rattle.tables.specs.Releasing.{isYes, wokenOf, stayingOf, tallyOf, wokenIn, unsoundIn, movedTables, movedMemory, releaseOf, releasedOf}
+use Rattle.tables.specs.Releasing.{releasedMemory}
 
 -- a walk over the cells from one up to another: none is left from the end on, and before it the next one comes first
 pub cells-end : (m : List ℕ) (cell last : ℕ) → cell ≤ last → last ≤ cell → slice cell last m ≡ []
@@ -118,6 +118,6 @@ module _ (t : Tables) (d : ℕ) (m : List ℕ) where
       release-full h = rw (lt-leb (t .tokens) d inside, counted .0, ← counted .1, lt-leb (t .end + n) 4096 h) (refl, refl)
 
       pub release-moved : {r : Tables} {m′ : List ℕ} → t .end + n ≤ 4096 → r ≡ movedTables t d m → m′ ≡ movedMemory t d m
-        → Gives m (releaseOf t d m) (Released.Passed r) m′
+          → Gives m (releaseOf t d m) (Released.Passed r) m′
       unfolding releaseOf releasedOf releasedMemory
       release-moved h r-is m-is = rw (lt-leb (t .tokens) d inside, counted .0, ← counted .1, le-leb (t .end + n) 4096 h) (ap Released.Passed r-is, m-is)

@@ -6,9 +6,9 @@ use Prim.Native.Nat.{ℕ, suc, _+_, _-_, _<_, _≤_}
 use native.Mathlib.Omega.{arith}
 use borrow.Author.Tests.{lt-ltb, le-ltb, le-leb, eqb-true, eqb-false, ltb-true, ltb-false, leb-true}
 use lib.Dec.{leb, ltb, eqb}
-use lib.ListN.{length, getD, take, drop}
-use lib.Seq.{take-take, sets, slice, slice-cons, length-slice, length-sets}
-use Rattle.rules.specs.Lists.{if, has}
+use lib.ListN.{length, getD, take, drop, set, length-set}
+use lib.Seq.{take-set-le, drop-set-lt, sets, slice, slice-cons, length-slice, length-sets}
+use Rattle.rules.specs.Lists.{if, has, times, range, Below}
 use Rattle.rules.specs.TakingTokens.{none, took, tokensOf, takeNew, takeFrom}
 use Rattle.rules.specs.TakingTokens as rules
 use Rattle.rules.specs.Sources.{Taken as Outcome, Nothing, Took}
@@ -16,69 +16,107 @@ use Rattle.tables.specs.declared.Tables.{Tables}
 use Rattle.tables.specs.declared.Count.{Count}
 use Rattle.tables.specs.Facts.{standingOf}
 use Rattle.tables.specs.State.{State, span, marks}
-use Rattle.rules.specs.Lists.{range}
-use Rattle.tables.specs.Taking.{findOf, deferredUpto, withCount, takeUpto, takeReady, takeOf}
-use Rattle.rules.specs.Lists.{Below}
+use Rattle.tables.specs.Taking.{findOf, deferredUpto, withCount, withoutFirst, takeUpto, takeReady, takeOf}
 use Rattle.tables.specs.Matching.{Standing, Match, nobody, only}
-use Rattle.rules.proofs.lists.Tests.{if-same, if-eta, by-test}
+use Rattle.rules.proofs.lists.Tests.{if-eta, by-test}
+use Rattle.rules.proofs.lists.Counting.{times-none}
 use Rattle.rules.proofs.lists.Members.{below-range, length-range}
-use Rattle.tables.proofs.StateLaws.{take-sets, drop-sets, drop-more, facts-length}
-use Rattle.tables.proofs.MemoryLaws.{length-marks, take-marks, drop-marks, standing-marks, recorded-same, slice-append, slice-same}
-use Rattle.tables.proofs.RuleTaking.{Passing, after, Together, new-tokens, new-standing, tokens-after, marked}
+use Rattle.tables.proofs.memory.Cells.{take-less, take-sets, drop-sets, drop-more}
+use Rattle.tables.proofs.memory.MemoryLaws.{standing-set, length-marks, take-marks, drop-marks, standing-marks, recorded-kept, slice-append, slice-same}
+use Rattle.tables.proofs.matching.RuleTaking.{Passing, after, Together, new-tokens, new-standing, tokens-after, marked, waiting-same}
+use Rattle.tables.proofs.matching.StandingLaws.{ready-low}
 
 -- the memory's outcome of taking stands for the rules' one
 abbrev pub TakenMatch : ℕ → (ℕ → List ℕ) → rules.Taken → Outcome State → Type 0
 TakenMatch tokens numbers (none a) o = (x : State) × (o ≡ Nothing x) × Match tokens numbers a x nobody
 TakenMatch tokens numbers (took n a) o = (x : State) × (o ≡ Took n x) × Match tokens numbers a x (only n)
 
--- the standings after the oldest ready token left the queue
-ready-standing : (numbers : ℕ → List ℕ) (a : rules.Tables) (s : ℕ → ℕ) (n : ℕ) (rest : List ℕ) → a .ready ≡ n ∷ rest → Standing numbers a s nobody
-  → Standing numbers (record { count = a .count; ready = rest; deferred = a .deferred }) s (only n)
-unfolding has
-ready-standing numbers a s n rest e p =
-    let has-is : (j : ℕ) → has (a .ready) j ≡ if (eqb n j) true (has rest j) = λ j. rw e in
-    let low : Below (a .count) (n ∷ rest) = rw e at (p .low-ready) in
-    record {
-      waiting = p .waiting;
-      marked = p .marked;
-      fresh = p .fresh;
-      settled = λ j l x y o. p .settled j l x (rw (has-is j, o) y) refl;
-      apart = λ j y. p .apart j (rw (has-is j, y) (if-same (eqb n j) true));
-      outside = λ j o. (p .apart j (rw (has-is j, o)), (let j-is : n ≡ j = eqb-true n j o in omega (arith, low .0)));
-      low = p .low;
-      low-ready = low .1 }
+-- the standings after the oldest ready token left the queue, and its own was cleared
+module _ (numbers : ℕ → List ℕ) (a : rules.Tables) (s : ℕ → ℕ) (n : ℕ) (rest : List ℕ) (e : a .ready ≡ n ∷ rest) (p : Standing numbers a s nobody) where
+  without : ℕ → ℕ
+  without j = if (eqb n j) 0 (s j)
+
+  in-queue : (j : ℕ) → has (a .ready) j ≡ if (eqb n j) true (has rest j)
+  unfolding has
+  in-queue j = rw e
+
+  was-ready : (j : ℕ) → eqb n j ≡ true → s j ≡ 2
+  was-ready j o = eqb-true (s j) 2 (sym (p .queued j) ∙ rw (in-queue j, o))
+
+  -- no other test of a standing than that for 2 sees the change
+  same-but : (v j : ℕ) → eqb 2 v ≡ false → eqb 0 v ≡ false → eqb (s j) v ≡ eqb (without j) v
+  unfolding without
+  same-but v j two zero = by-test (eqb n j) (λ o. rw (o, was-ready j o, two, zero)) (λ o. rw o)
+
+  new-once : (j : ℕ) → times j (tokensOf (a .deferred)) + times j rest ≤ 1
+  unfolding times
+  new-once j = omega (arith, rw e at (p .once j))
+
+  new-queued : (j : ℕ) → has rest j ≡ eqb (without j) 2
+  unfolding without times
+  new-queued j = by-test (eqb n j)
+      (λ o. rw o (times-none rest j (omega (arith, rw (e, o) at (p .once j)))))
+      (λ o. rw o (sym (rw (in-queue j, o)) ∙ p .queued j))
+
+  ready-standing : Standing numbers (record { count = a .count; ready = rest; deferred = a .deferred }) without (only n)
+  unfolding without
+  ready-standing =
+      record {
+        waiting = waiting-same numbers s without (λ j. same-but 3 j refl refl) (a .deferred) (p .waiting);
+        marked = λ j. p .marked j ∙ same-but 1 j refl refl;
+        queued = new-queued;
+        once = new-once;
+        fresh = λ j l. by-test (eqb n j) (λ o. rw o) (λ o. rw o (p .fresh j l));
+        settled = λ j l x y o. rw o (p .settled j l x (rw (in-queue j, o) y) refl);
+        outside = λ j o. (rw o, (let j-is : n ≡ j = eqb-true n j o in omega (arith, (rw e at (ready-low p)) .0)));
+      }
 
 module _ (tokens : ℕ) (numbers : ℕ → List ℕ) (a : rules.Tables) (t : Tables) (m : List ℕ) (p : Match tokens numbers a (t, m) nobody) where
   -- a ready token
   pub ready-match : (n : ℕ) (rest : List ℕ) → a .ready ≡ n ∷ rest
-    → TakenMatch tokens numbers (took n (record { count = a .count; ready = rest; deferred = a .deferred })) (takeOf t m)
-  unfolding takeOf takeReady
+      → TakenMatch tokens numbers (took n (record { count = a .count; ready = rest; deferred = a .deferred })) (takeOf t m)
+  unfolding takeOf takeReady without
   ready-match n rest e =
       let long : length (slice (28672 + t .first) (28672 + t .end) m) ≡ (28672 + t .end) - (28672 + t .first) =
-        length-slice (28672 + t .first) (28672 + t .end) m (omega (arith, p .range .end, p .whole)) in
+      length-slice (28672 + t .first) (28672 + t .end) m (omega (arith, p .range .end, p .whole)) in
       let some : t .first < t .end = omega (arith, long, ap length (p .queue ∙ e)) in
       let cells : getD m (28672 + t .first) 0 ∷ slice (suc (28672 + t .first)) (28672 + t .end) m ≡ n ∷ rest =
-        sym (slice-cons (28672 + t .first) (28672 + t .end) m 0 (omega arith) (omega (arith, p .range .end, p .whole))) ∙ p .queue ∙ e in
+      sym (slice-cons (28672 + t .first) (28672 + t .end) m 0 (omega arith) (omega (arith, p .range .end, p .whole))) ∙ p .queue ∙ e in
       let token-is : getD m (28672 + t .first) 0 ≡ n = cc in
       let rest-is : slice (suc (28672 + t .first)) (28672 + t .end) m ≡ rest = cc in
-      let low : n < a .count = (rw e at (p .standing .low-ready)) .0 in
-      let next : suc (28672 + t .first) ≡ 28672 + (t .first + 1) = omega arith in
-      ((record { tokens = t .tokens; count = t .count; first = t .first + 1; end = t .end; held = t .held }, m),
+      let low : n < a .count = (rw e at (ready-low (p .standing))) .0 in
+      let small : n < 4096 = omega (arith, p .range .count, p .count, p .range .tokens) in
+      let cleared : List ℕ = set m (20480 + n) 0 in
+      let long : length cleared ≡ length m = length-set m (20480 + n) 0 in
+      let tables : drop 24576 cleared ≡ drop 24576 m = drop-set-lt 24576 m (20480 + n) 0 (omega arith) in
+      let standing : standingOf (take 24576 cleared) ≡ without numbers a (standingOf (take 24576 m)) n rest e (p .standing) =
+      fun-ext (λ j. standing-set m (p .whole) n 0 j small) in
+      let next : suc (28672 + t .first) ≡ 28672 + (t .first + 1) = omega arith in (
+        (withoutFirst t, cleared),
         rw (lt-ltb (t .first) (t .end) some, token-is, lt-ltb n (t .tokens) (omega (arith, p .range .count, p .count))),
         record {
           range = record { tokens = p .range .tokens; count = p .range .count; queue = omega arith; end = p .range .end; held = p .range .held };
-          whole = p .whole;
+          whole = rw long (p .whole);
           size = p .size;
           count = p .count;
           room = p .room;
-          queue = rw next at rest-is;
-          table = p .table;
-          records = p .records;
-          standing = ready-standing numbers a (standingOf (take 24576 m)) n rest e (p .standing) })
+          queue =
+              slice-same m cleared 24576 (28672 + (t .first + 1)) (28672 + t .end) tables (omega arith) (omega arith)
+              (omega (arith, p .range .end, p .whole)) long
+              ∙ (rw next at rest-is);
+          table =
+              slice-same m cleared 24576 24576 (24576 + t .held) tables (omega arith) (omega arith) (omega (arith, p .range .held, p .whole)) long ∙ p .table;
+          records = λ j l.
+              recorded-kept m cleared (take-set-le 20480 m (20480 + n) 0 (omega arith)) long (p .whole) j (omega (arith, p .range .tokens, p .size))
+              (p .records j l);
+          standing = rw standing (ready-standing numbers a (standingOf (take 24576 m)) n rest e (p .standing));
+        },
+      )
 
   -- with no token ready, k tokens are deferred
   module _ (k count : ℕ) (out : ℕ → Bool) (past : a .count + k ≤ count) (inside : count ≤ tokens)
-    (after-standing : Standing numbers (after numbers (take 24576 m) (a .count) a k count) (marked (standingOf (take 24576 m)) 1 (range (a .count) k)) out) where
+      (after-standing : Standing numbers (after numbers (take 24576 m) (a .count) a k count)
+      (marked (standingOf (take 24576 m)) 1 (range (a .count) k)) out) where
     passed : List ℕ
     passed = range (a .count) k
 
@@ -118,11 +156,9 @@ module _ (tokens : ℕ) (numbers : ℕ → List ℕ) (a : rules.Tables) (t : Tab
         drop-more entered left 24576 28672 tables-left (omega arith)
         ∙ drop-sets (range (a .count) k) m (24576 + t .held) 28672 (omega (arith, passed-length, p .room, p .count, p .range .tokens, p .size))
 
-    records-left : take 20480 (take 24576 left) ≡ take 20480 (take 24576 m)
+    records-left : take 20480 left ≡ take 20480 m
     unfolding left
-    records-left =
-        take-take 20480 24576 left (omega arith) ∙ take-marks entered 1 passed
-        ∙ sym (take-take 20480 24576 entered (omega arith)) ∙ ap (λ (l : List ℕ). take 20480 l) facts-entered
+    records-left = take-marks entered 1 passed ∙ take-less m entered 24576 20480 facts-entered (omega arith)
 
     standing-left : standingOf (take 24576 left) ≡ marked (standingOf (take 24576 m)) 1 passed
     unfolding left
@@ -133,38 +169,52 @@ module _ (tokens : ℕ) (numbers : ℕ → List ℕ) (a : rules.Tables) (t : Tab
     unfolding entered passed
     table-left =
         let ends : 24576 + (t .held + k) ≡ 24576 + t .held + length (range (a .count) k) = omega (arith, passed-length) in
-        let fits : 24576 + t .held + length (range (a .count) k) ≤ length m = omega (arith, passed-length, p .room, p .count, p .range .tokens, p .size, p .whole) in
-        slice-same entered left 24576 24576 (24576 + (t .held + k)) tables-left (omega arith) (omega arith) (omega (arith, entered-length, passed-length)) (left-length ∙ sym entered-length)
+        let fits : 24576 + t .held + length (range (a .count) k) ≤ length m = omega
+        (arith, passed-length, p .room, p .count, p .range .tokens, p .size, p .whole) in
+        slice-same entered left 24576 24576 (24576 + (t .held + k)) tables-left (omega arith) (omega arith)
+        (omega (arith, entered-length, passed-length)) (left-length ∙ sym entered-length)
         ∙ (rw (← ends, p .table) at (slice-append (range (a .count) k) m 24576 (24576 + t .held) (omega arith) fits))
 
-    deferred-match : (count′ : ℕ) → count′ ≡ count → Match tokens numbers (after numbers (take 24576 m) (a .count) a k count) (withCount t (a .count + k) count′, left) out
+    deferred-match : (count′ : ℕ) → count′ ≡ count →
+        Match tokens numbers (after numbers (take 24576 m) (a .count) a k count) (withCount t (a .count + k) count′, left) out
     unfolding passed
     deferred-match count′ count-is =
         let new : (a .count + k) - t .count ≡ k = omega (arith, p .count) in
         record {
-          range = record { tokens = p .range .tokens; count = omega (arith, p .size); queue = p .range .queue; end = p .range .end; held = omega (arith, p .room, p .count, p .range .tokens, p .size) };
+          range = record {
+            tokens = p .range .tokens;
+            count = omega (arith, p .size);
+            queue = p .range .queue;
+            end = p .range .end;
+            held = omega
+                (arith, p .room, p .count, p .range .tokens, p .size);
+          };
           whole = rw left-length (p .whole);
           size = p .size;
           count = count-is;
           room = omega (arith, p .room, p .count);
-          queue = slice-same m left 28672 (28672 + t .first) (28672 + t .end) queue-left (omega arith) (omega (arith, p .range .queue)) (omega (arith, p .range .end, p .whole)) left-length ∙ p .queue;
+          queue = slice-same m left 28672 (28672 + t .first) (28672 + t .end) queue-left (omega arith) (omega (arith, p .range .queue))
+              (omega (arith, p .range .end, p .whole)) left-length ∙ p .queue;
           table = rw (new, tokens-after numbers (take 24576 m) (a .count) (a .deferred) (range (a .count) k)) table-left;
-          records = λ n l. recorded-same (take 24576 m) (take 24576 left) records-left n (omega (arith, p .range .tokens, p .size))
-            (omega (arith, facts-length m (p .whole))) (omega (arith, facts-length left (rw left-length (p .whole)))) (p .records n l);
-          standing = rw standing-left after-standing }
+          records = λ n l. recorded-kept m left records-left left-length (p .whole) n (omega (arith, p .range .tokens, p .size)) (p .records n l);
+          standing = rw standing-left after-standing;
+        }
 
   module _ (self : (n : ℕ) → has (numbers n) n ≡ false) (none-ready : a .ready ≡ []) where
     nothing-passed : Passing (take 24576 m) (a .count) a
     nothing-passed =
         record {
           from = omega arith;
-          held = λ n. p .standing .marked n ∙ sym (ap (λ b. if (eqb (standingOf (take 24576 m) n) 1) true b) (none n) ∙ if-eta (eqb (standingOf (take 24576 m) n) 1)) }
+          held = λ n. p .standing .marked n
+              ∙ sym (ap (λ b. if (eqb (standingOf (take 24576 m) n) 1) true b) (none n) ∙ if-eta (eqb (standingOf (take 24576 m) n) 1));
+        }
       where
         none : (n : ℕ) → if (leb (a .count) n) (ltb n (a .count)) false ≡ false
         none n = by-test (leb (a .count) n) (λ e. rw (e, le-ltb n (a .count) (leb-true (a .count) n e))) (λ e. rw e)
 
     together : Together numbers (take 24576 m) (a .count) tokens (tokens - a .count) a
-    together = new-tokens numbers (take 24576 m) (a .count) tokens (tokens - a .count) a (p .records) nothing-passed (omega (arith, p .range .count, p .count, p .size))
+    together = new-tokens numbers (take 24576 m) (a .count) tokens (tokens - a .count) a (p .records) nothing-passed
+        (omega (arith, p .range .count, p .count, p .size))
 
     k : ℕ
     k = together .0
@@ -192,36 +242,39 @@ module _ (tokens : ℕ) (numbers : ℕ → List ℕ) (a : rules.Tables) (t : Tab
 
     room-left : leb (t .held + ((a .count + k) - t .count)) 4096 ≡ true
     unfolding k
-    room-left = le-leb (t .held + ((a .count + together .0) - t .count)) 4096 (omega (arith, together .1, p .room, p .count, p .size, p .range .count, p .range .tokens))
+    room-left = le-leb (t .held + ((a .count + together .0) - t .count)) 4096
+        (omega (arith, together .1, p .room, p .count, p .size, p .range .count, p .range .tokens))
 
     last-within : a .count + k ≤ tokens
     unfolding k
     last-within = omega (arith, together .1, p .range .count, p .count, p .size)
 
     took-match : ltb (a .count + k) tokens ≡ true
-      → TakenMatch tokens numbers (took (a .count + k) (after numbers (take 24576 m) (a .count) a k (suc (a .count + k)))) (takeOf t m)
+        → TakenMatch tokens numbers (took (a .count + k) (after numbers (take 24576 m) (a .count) a k (suc (a .count + k)))) (takeOf t m)
     unfolding takeUpto left entered passed k
     took-match e =
         let u : ℕ = a .count + together .0 in
         let less : u < tokens = ltb-true u tokens e in
         let standing =
-          new-standing numbers self (take 24576 m) a (p .standing) none-ready (together .0) (suc u) (only u) (omega arith) (together .4)
-          (λ n l o. omega (arith, eqb-false u n o)) (λ n o. let n-is : u ≡ n = eqb-true u n o in omega arith) in
-        ((withCount t u (u + 1), marks (sets m (24576 + t .held) (range (a .count) (together .0))) 1 (range (a .count) (together .0))),
+        new-standing numbers self (take 24576 m) a (p .standing) none-ready (together .0) (suc u) (only u) (omega arith) (together .4)
+        (λ n l o. omega (arith, eqb-false u n o)) (λ n o. let n-is : u ≡ n = eqb-true u n o in omega arith) in (
+          (withCount t u (u + 1), marks (sets m (24576 + t .held) (range (a .count) (together .0))) 1 (range (a .count) (together .0))),
           takes ∙ rw (room-left, lt-ltb u (t .tokens) (omega (arith, p .size)), memory-is),
-          deferred-match (together .0) (suc u) (only u) (omega arith) (omega arith) standing (u + 1) (omega arith))
+          deferred-match (together .0) (suc u) (only u) (omega arith) (omega arith) standing (u + 1) (omega arith),
+        )
 
     none-match : ltb (a .count + k) tokens ≡ false
-      → TakenMatch tokens numbers (none (after numbers (take 24576 m) (a .count) a k (a .count + k))) (takeOf t m)
+        → TakenMatch tokens numbers (none (after numbers (take 24576 m) (a .count) a k (a .count + k))) (takeOf t m)
     unfolding takeUpto left entered passed k
     none-match e =
         let u : ℕ = a .count + together .0 in
         let standing =
-          new-standing numbers self (take 24576 m) a (p .standing) none-ready (together .0) u nobody (omega arith) (together .4)
-          (λ n l o. l) (λ n o. absurd (true≢false (sym o))) in
-        ((withCount t u u, marks (sets m (24576 + t .held) (range (a .count) (together .0))) 1 (range (a .count) (together .0))),
+        new-standing numbers self (take 24576 m) a (p .standing) none-ready (together .0) u nobody (omega arith) (together .4)
+        (λ n l o. l) (λ n o. absurd (true≢false (sym o))) in (
+          (withCount t u u, marks (sets m (24576 + t .held) (range (a .count) (together .0))) 1 (range (a .count) (together .0))),
           takes ∙ rw (room-left, le-ltb u (t .tokens) (omega (arith, p .size, ltb-false u tokens e)), memory-is),
-          deferred-match (together .0) u nobody (omega arith) last-within standing u refl)
+          deferred-match (together .0) u nobody (omega arith) last-within standing u refl,
+        )
 
     pub new-match : TakenMatch tokens numbers (takeNew numbers (tokens - a .count) a) (takeOf t m)
     unfolding k

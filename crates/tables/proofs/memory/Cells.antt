@@ -1,18 +1,14 @@
 -- Spans of tokens, runs of stores and marks, one step at a time, and what they leave alone.
 use mathlib.Core.Path.{_≡_, refl, sym, ap, _∙_}
-use mathlib.Core.Bool.{Bool, true, false}
 use mathlib.Core.List.{List, [], _∷_, _++_}
 use Prim.Native.Nat.{ℕ, suc, _+_, _-_, _<_, _≤_}
 use native.Mathlib.Omega.{arith}
 use native.Mathlib.Numerals.{add-one}
-use borrow.Author.Tests.{le-leb, leb-true}
-use lib.Dec.{leb}
-use lib.ListN.{length, getD, take, drop, set, replicate, length-append}
-use lib.Seq.{length-take-le, sets, sets-eq, slice, take-set-le, drop-set-lt, take-take, drop-drop, take-add, take-at, drop-at, getD-take, getD-drop}
-use Rattle.rules.specs.Lists.{if}
-use Rattle.tables.specs.declared.Tables.{Tables}
-use Rattle.tables.specs.Facts.{standingAt}
-use Rattle.tables.specs.State.{InRange, soundOf, span, marks}
+use lib.ListN.{length, getD, take, drop, set, replicate, length-append, take-append-drop}
+use lib.Seq.{length-take-le, length-slice, sets, sets-eq, slice, take-set-le, drop-set-lt, take-take, drop-drop, take-add, take-at, drop-at}
+use lib.Seq.{getD-take, getD-drop}
+use Rattle.tables.specs.Layout.{standingAt}
+use Rattle.tables.specs.State.{span, marks}
 use Rattle.rules.specs.Lists.{range}
 
 -- the facts' part of the memory has its whole length
@@ -68,14 +64,16 @@ module _ (m m′ : List ℕ) (n k : ℕ) where
       rw k-is at (sym (getD-drop n m′ (k - n) 0) ∙ ap (λ (l : List ℕ). getD l (k - n) 0) e ∙ getD-drop n m (k - n) 0)
 
 -- a store, where a list of values is left to store
-pub sets-store : {whole : List ℕ} (m : List ℕ) (at : ℕ) {vs ws : List ℕ} {u v : ℕ} → whole ≡ sets m at vs → vs ≡ v ∷ ws → u ≡ v → whole ≡ sets (set m at u) (at + 1) ws
+pub sets-store : {whole : List ℕ} (m : List ℕ) (at : ℕ) {vs ws : List ℕ} {u v : ℕ} → whole ≡ sets m at vs → vs ≡ v ∷ ws → u ≡ v →
+    whole ≡ sets (set m at u) (at + 1) ws
 sets-store m at e vs-are u-is = rw (u-is, add-one at) (rw vs-are at e)
 
 pub sets-none : {whole : List ℕ} (m : List ℕ) (at : ℕ) {vs : List ℕ} → whole ≡ sets m at vs → vs ≡ [] → m ≡ whole
 sets-none m at e vs-are = sym (rw vs-are at e)
 
 -- a mark, where a list of tokens is left to mark
-pub marks-store : {whole : List ℕ} (m : List ℕ) (s : ℕ) {ts us : List ℕ} {t u : ℕ} → whole ≡ marks m s ts → ts ≡ t ∷ us → u ≡ t → whole ≡ marks (set m (20480 + u) s) s us
+pub marks-store : {whole : List ℕ} (m : List ℕ) (s : ℕ) {ts us : List ℕ} {t u : ℕ} → whole ≡ marks m s ts → ts ≡ t ∷ us → u ≡ t →
+    whole ≡ marks (set m (20480 + u) s) s us
 unfolding marks
 marks-store m s e ts-are u-is = rw u-is (rw ts-are at e)
 
@@ -115,30 +113,8 @@ slice-sets vs m i h =
     rw (sets-eq vs m i h, take-at (take i m ++ vs) (drop (i + length vs) m) (i + length vs) e)
     (drop-at (take i m) vs i (length-take-le i m (omega arith)))
 
--- a test in front of another, as tables are tested: both hold
-and-true : (b : Bool) {x : Bool} → if b x false ≡ true → (b ≡ true) × (x ≡ true)
-and-true true e = (refl, e)
-and-true false e = let z : _≡_ {A = ℕ} 0 1 = cc in absurd (omega arith)
-
--- tables that pass the test are within their ranges
-pub sound-range : (t : Tables) (m : List ℕ) → soundOf (t, m) ≡ true → InRange t × (32768 ≤ length m)
-unfolding soundOf
-sound-range t m e =
-    let a = and-true (leb 32768 (length m)) e in
-    let b = and-true (leb (t .tokens) 4096) (a .1) in
-    let c = and-true (leb (t .count) (t .tokens)) (b .1) in
-    let d = and-true (leb (t .first) (t .end)) (c .1) in
-    let f = and-true (leb (t .end) 4096) (d .1) in
-    (record {
-      tokens = leb-true (t .tokens) 4096 (b .0);
-      count = leb-true (t .count) (t .tokens) (c .0);
-      queue = leb-true (t .first) (t .end) (d .0);
-      end = leb-true (t .end) 4096 (f .0);
-      held = leb-true (t .held) 4096 (f .1) },
-    leb-true 32768 (length m) (a .0))
-
--- where all the other numbers are within their ranges, the last decides
-pub sound-last : (t : Tables) (m : List ℕ) → 32768 ≤ length m → t .tokens ≤ 4096 → t .count ≤ t .tokens → t .first ≤ t .end → t .end ≤ 4096 → leb (t .held) 4096 ≡ soundOf (t, m)
-unfolding soundOf
-sound-last t m a b c d e =
-    rw (le-leb 32768 (length m) a, le-leb (t .tokens) 4096 b, le-leb (t .count) (t .tokens) c, le-leb (t .first) (t .end) d, le-leb (t .end) 4096 e)
+-- cells stored again leave the memory as it is
+pub sets-slice : (m : List ℕ) (i n : ℕ) → i + n ≤ length m → sets m i (slice i (i + n) m) ≡ m
+sets-slice m i n h =
+    let long : length (slice i (i + n) m) ≡ n = length-slice i (i + n) m h ∙ omega arith in
+    rw (sets-eq (slice i (i + n) m) m i (omega arith), long, slice-from m i n (omega arith), ← take-add i n m) (take-append-drop (i + n) m)

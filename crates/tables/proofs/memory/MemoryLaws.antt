@@ -7,14 +7,14 @@ use native.Mathlib.Omega.{arith}
 use borrow.Author.Tests.{ltb-true, ltb-false, ne-eqb, eqb-true, eqb-false}
 use lib.Dec.{ltb, eqb}
 use lib.ListN.{length, getD, take, drop, set, length-set, length-append}
-use lib.Seq.{sets, sets-eq, slice, length-take-le, getD-take, getD-set-same, getD-set-other, take-set-le, drop-set-lt, take-at, drop-append-le}
-use Rattle.rules.specs.Lists.{if, has}
+use lib.Seq.{sets, sets-eq, slice, length-take-le, getD-take, getD-set-same, getD-set-other, take-set-le, drop-set-lt, take-at, drop-append-le, take-take}
+use Rattle.rules.specs.Lists.{if, has, Below}
+use Rattle.tables.specs.Layout.{factsOf}
 use Rattle.tables.specs.Facts.{standingOf, numbersAt, numbersOf}
 use Rattle.tables.specs.State.{marks}
-use Rattle.rules.specs.Lists.{Below}
 use Rattle.tables.specs.Matching.{Recorded}
-use Rattle.tables.proofs.FactsLaws.{standing-none, at-beyond, numbers-within}
-use Rattle.tables.proofs.StateLaws.{facts-length, take-less, drop-more, cell-below, slice-from}
+use Rattle.tables.proofs.memory.FactsLaws.{standing-none, at-beyond, numbers-within}
+use Rattle.tables.proofs.memory.Cells.{facts-length, take-less, drop-more, cell-below, slice-from}
 use Rattle.rules.proofs.lists.Tests.{by-test}
 
 -- the standing of a number after one token got a new one
@@ -32,9 +32,9 @@ module _ (m : List ℕ) (whole : 32768 ≤ length m) (t v n : ℕ) (low : t < 40
       by-test (ltb n 4096)
       (λ e. standing-low (ltb-true n 4096 e))
       (λ e. let h : 4096 ≤ n = ltb-false n 4096 e in
-        rw (ne-eqb t n (λ x. omega arith))
-        (sym (standing-none (take 24576 (set m (20480 + t) v)) n (facts-length (set m (20480 + t) v) (simp length-set whole)) h)
-        ∙ standing-none (take 24576 m) n (facts-length m whole) h))
+      rw (ne-eqb t n (λ x. omega arith))
+      (sym (standing-none (take 24576 (set m (20480 + t) v)) n (facts-length (set m (20480 + t) v) (simp length-set whole)) h)
+      ∙ standing-none (take 24576 m) n (facts-length m whole) h))
 
 -- marks: their length, what they leave alone, and the standings after them
 pub length-marks : (m : List ℕ) (v : ℕ) (ts : List ℕ) → length (marks m v ts) ≡ length m
@@ -53,7 +53,7 @@ drop-marks m v [] b = refl
 drop-marks m v (t ∷ ts) b = drop-marks (set m (20480 + t) v) v ts (b .1) ∙ drop-set-lt 24576 m (20480 + t) v (omega (arith, b .0))
 
 pub standing-marks : (m : List ℕ) (v : ℕ) (ts : List ℕ) → 32768 ≤ length m → Below 4096 ts → (n : ℕ)
-  → standingOf (take 24576 (marks m v ts)) n ≡ if (has ts n) v (standingOf (take 24576 m) n)
+    → standingOf (take 24576 (marks m v ts)) n ≡ if (has ts n) v (standingOf (take 24576 m) n)
 unfolding marks has
 standing-marks m v [] whole b n = refl
 standing-marks m v (t ∷ ts) whole b n =
@@ -74,21 +74,33 @@ module _ (f f′ : List ℕ) (same : take 20480 f′ ≡ take 20480 f) (n : ℕ)
       by-test (ltb place 16384)
       (λ e. rw (cell-below f f′ 20480 place same (omega (arith, ltb-true place 16384 e))))
       (λ e. let h : 16384 ≤ place = ltb-false place 16384 e in
-        sym (at-beyond f′ {place = place} refl (λ x. omega arith) (omega arith)) ∙ at-beyond f {place = place} refl (λ x. omega arith) (omega arith))
+      sym (at-beyond f′ {place = place} refl (λ x. omega arith) (omega arith)) ∙ at-beyond f {place = place} refl (λ x. omega arith) (omega arith))
 
   numbers-same : numbersOf f′ n ≡ numbersOf f n
   unfolding numbersOf
   numbers-same = rw (cell-below f f′ 20480 (16384 + n) same (omega arith)) (at-same (getD f (16384 + n) 0))
 
-  pub recorded-same : {ns : List ℕ} → 20480 ≤ length f → 20480 ≤ length f′ → Recorded f n ns → Recorded f′ n ns
+  recorded-same : {ns : List ℕ} → 20480 ≤ length f → 20480 ≤ length f′ → Recorded f n ns → Recorded f′ n ns
   recorded-same {ns} long long′ r =
       let a : ℕ = r .0 in
       let b : ℕ = r .1 in
       let w = numbers-within f n refl (r .2) in
       let b-is : a + (b - a) ≡ b = omega (arith, w .0) in
-      let part : slice a b f′ ≡ slice a b f = ap (λ (l : List ℕ). drop a l) (take-less f f′ 20480 b same (omega (arith, w .1))) in
-      (a, b, numbers-same ∙ r .2,
-        sym (slice-from f′ a (b - a) (omega (arith, w .0, w .1))) ∙ rw b-is part ∙ (rw b-is at (slice-from f a (b - a) (omega (arith, w .0, w .1)))) ∙ r .3)
+      let part : slice a b f′ ≡ slice a b f = ap (λ (l : List ℕ). drop a l) (take-less f f′ 20480 b same (omega (arith, w .1))) in (
+        a,
+        b,
+        numbers-same ∙ r .2,
+        sym (slice-from f′ a (b - a) (omega (arith, w .0, w .1))) ∙ rw b-is part ∙ (rw b-is at (slice-from f a (b - a) (omega (arith, w .0, w .1)))) ∙ r .3,
+      )
+
+-- so a memory with the same cells below the standings has the same records
+pub recorded-kept : (m m′ : List ℕ) → take 20480 m′ ≡ take 20480 m → length m′ ≡ length m → 32768 ≤ length m →
+    (n : ℕ) → n < 4096 → {ns : List ℕ} → Recorded (factsOf m) n ns → Recorded (factsOf m′) n ns
+recorded-kept m m′ same long whole n low r =
+    let short : length (factsOf m) ≡ 24576 = facts-length m whole in
+    let short′ : length (factsOf m′) ≡ 24576 = facts-length m′ (omega arith) in
+    recorded-same (factsOf m) (factsOf m′)
+    (take-take 20480 24576 m′ (omega arith) ∙ same ∙ sym (take-take 20480 24576 m (omega arith))) n low (omega arith) (omega arith) r
 
 -- a run of stores at the end of some cells appends to them
 pub slice-append : (vs m : List ℕ) (f e : ℕ) → f ≤ e → e + length vs ≤ length m → slice f (e + length vs) (sets m e vs) ≡ slice f e m ++ vs

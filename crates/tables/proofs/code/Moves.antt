@@ -4,18 +4,19 @@ use mathlib.Core.Bool.{Bool, true, false, not}
 use mathlib.Core.List.{List, [], _∷_}
 use Prim.Native.Nat.{ℕ, suc, _+_, _-_, _<_, _≤_}
 use native.Mathlib.Omega.{arith}
+use native.Mathlib.Nat.{add-zero}
 use borrow.Author.Tests.{leb-false}
 use lib.Dec.{leb}
 use lib.ListN.{length, set, take, drop, replicate, length-replicate}
 use lib.Seq.{sets, slice, length-sets, length-slice}
-use Rattle.rules.specs.Lists.{if, keep}
+use Rattle.rules.specs.Lists.{if, keep, Below}
 use Rattle.tables.specs.declared.Tables.{Tables}
 use Rattle.tables.specs.declared.Test.{Test}
 use Rattle.tables.specs.Facts.{wakesOf}
 use Rattle.tables.specs.State.{InRange, marks, tableOf}
 use Rattle.tables.specs.Releasing.{isYes, wokenOf, stayingOf, wokenIn, stayingIn, movedTables, movedMemory}
-use Rattle.rules.specs.Lists.{Below}
-use Rattle.tables.proofs.StateLaws.{take-sets, drop-sets, slice-before, slice-from, slice-sets}
+use Rattle.tables.proofs.memory.Cells.{take-sets, drop-sets, slice-before, slice-from, slice-sets, sets-slice}
+use Rattle.rules.proofs.lists.Tests.{by-test}
 
 -- at most all elements pass a test, and what a test implies holds of all that pass
 keep-length : {A : Type 0} (p : A → Bool) (l : List A) → length (keep p l) ≤ length l
@@ -36,6 +37,14 @@ keep-below n p h (a ∷ l) = go (p a) refl (keep-below n p h l)
     go true e r = (h a e, r)
     go false e r = r
 
+-- where no element passes a test, all are left
+keep-none : {A : Type 0} (p : A → Bool) (l : List A) → length (keep p l) ≡ 0 → (keep p l ≡ []) × (keep (λ a. not (p a)) l ≡ l)
+unfolding keep
+keep-none p [] h = (refl, refl)
+keep-none p (a ∷ l) h = by-test (p a)
+    (λ e. absurd (omega (arith, rw e at h)))
+    (λ e. let r = keep-none p l (rw e at h) in rw e (r .0, ap (λ x. a ∷ x) (r .1)))
+
 -- a token that wakes is below N
 wakes-below : (f : List ℕ) (tokens d t : ℕ) → isYes (wakesOf f tokens d t) ≡ true → t < tokens
 unfolding wakesOf
@@ -48,18 +57,46 @@ wakes-below f tokens d t = go (leb tokens t) refl _
 module _ (t : Tables) (d : ℕ) (m : List ℕ) (ok : InRange t) (whole : 32768 ≤ length m) where
   pub staying-length : length (stayingIn t d m) ≤ t .held
   unfolding stayingOf
-  staying-length = omega (arith, keep-length (λ n. not (isYes (wakesOf (take 24576 m) (t .tokens) d n))) (tableOf t m), length-slice 24576 (24576 + t .held) m (omega arith))
+  staying-length = omega
+      (arith, keep-length (λ n. not (isYes (wakesOf (take 24576 m) (t .tokens) d n))) (tableOf t m), length-slice 24576 (24576 + t .held) m (omega arith))
 
   pub woken-below : Below 4096 (wokenIn t d m)
   unfolding wokenOf
-  woken-below = keep-below 4096 (λ n. isYes (wakesOf (take 24576 m) (t .tokens) d n)) (λ n h. omega (arith, wakes-below (take 24576 m) (t .tokens) d n h)) (tableOf t m)
+  woken-below = keep-below 4096 (λ n. isYes (wakesOf (take 24576 m) (t .tokens) d n))
+      (λ n h. omega (arith, wakes-below (take 24576 m) (t .tokens) d n h)) (tableOf t m)
+
+  -- where no token wakes nothing moves, and the finished token has its new standing
+  module _ (asleep : length (wokenIn t d m) ≡ 0) where
+    woken-none : wokenIn t d m ≡ []
+    unfolding wokenOf
+    woken-none = keep-none (λ n. isYes (wakesOf (take 24576 m) (t .tokens) d n)) (tableOf t m) asleep .0
+
+    staying-all : stayingIn t d m ≡ tableOf t m
+    unfolding wokenOf stayingOf
+    staying-all = keep-none (λ n. isYes (wakesOf (take 24576 m) (t .tokens) d n)) (tableOf t m) asleep .1
+
+    table-length : length (tableOf t m) ≡ t .held
+    table-length = length-slice 24576 (24576 + t .held) m (omega arith) ∙ omega arith
+
+    pub none-tables : t ≡ movedTables t d m
+    unfolding movedTables
+    none-tables = rw (woken-none, staying-all, table-length, add-zero (t .end))
+
+    pub none-memory : set m (20480 + d) 3 ≡ movedMemory t d m
+    unfolding movedMemory marks
+    none-memory =
+        let gone : t .held - t .held ≡ 0 = omega arith in
+        rw (woken-none, staying-all, sets-slice m 24576 (t .held) (omega arith), table-length, gone)
 
   module _ {m₁ : List ℕ} (queued : m₁ ≡ sets m (28672 + t .end) (wokenIn t d m)) where
     -- the facts and the deferred table are still as they were
     pub staying-same : stayingOf (wakesOf (take 24576 m₁) (t .tokens) d) (slice 24576 (24576 + t .held) m₁) ≡ stayingIn t d m
     staying-same =
-        rw (queued, take-sets (wokenIn t d m) m (28672 + t .end) 24576 (omega arith),
-          slice-before (wokenIn t d m) m (28672 + t .end) 24576 (24576 + t .held) (omega arith))
+        rw (
+          queued,
+          take-sets (wokenIn t d m) m (28672 + t .end) 24576 (omega arith),
+          slice-before (wokenIn t d m) m (28672 + t .end) 24576 (24576 + t .held) (omega arith),
+        )
 
     module _ {kept : ℕ} (ends : kept ≡ 24576 + length (stayingOf (wakesOf (take 24576 m₁) (t .tokens) d) (slice 24576 (24576 + t .held) m₁))) where
       pub kept-is : kept ≡ 24576 + length (stayingIn t d m)
@@ -69,11 +106,11 @@ module _ (t : Tables) (d : ℕ) (m : List ℕ) (ok : InRange t) (whole : 32768 �
       kept-within = omega (arith, kept-is, staying-length)
 
       module _ {m₂ m₃ : List ℕ}
-        (closed : m₂ ≡ sets m₁ 24576 (stayingOf (wakesOf (take 24576 m₁) (t .tokens) d) (slice 24576 (24576 + t .held) m₁)))
-        (cleared : m₃ ≡ sets m₂ kept (replicate (24576 + t .held - kept) 0)) where
+          (closed : m₂ ≡ sets m₁ 24576 (stayingOf (wakesOf (take 24576 m₁) (t .tokens) d) (slice 24576 (24576 + t .held) m₁)))
+          (cleared : m₃ ≡ sets m₂ kept (replicate (24576 + t .held - kept) 0)) where
         -- the memory after clearing, from the first
         cleared-is : m₃ ≡ sets (sets (sets m (28672 + t .end) (wokenIn t d m)) 24576 (stayingIn t d m)) (24576 + length (stayingIn t d m))
-          (replicate (t .held - length (stayingIn t d m)) 0)
+            (replicate (t .held - length (stayingIn t d m)) 0)
         cleared-is =
             let zeros : 24576 + t .held - (24576 + length (stayingIn t d m)) ≡ t .held - length (stayingIn t d m) = omega arith in
             rw (cleared, closed, staying-same, queued, kept-is, zeros)
@@ -85,9 +122,9 @@ module _ (t : Tables) (d : ℕ) (m : List ℕ) (ok : InRange t) (whole : 32768 �
             let q : List ℕ = sets m (28672 + t .end) (wokenIn t d m) in
             let k : ℕ = t .held - length s in
             let same : drop (28672 + t .end) m₃ ≡ drop (28672 + t .end) q =
-              rw cleared-is
-              (drop-sets (replicate k 0) (sets q 24576 s) (24576 + length s) (28672 + t .end) (omega (arith, staying-length, length-replicate {A = ℕ} k 0))
-              ∙ drop-sets s q 24576 (28672 + t .end) (omega (arith, staying-length))) in
+            rw cleared-is
+            (drop-sets (replicate k 0) (sets q 24576 s) (24576 + length s) (28672 + t .end) (omega (arith, staying-length, length-replicate {A = ℕ} k 0))
+            ∙ drop-sets s q 24576 (28672 + t .end) (omega (arith, staying-length))) in
             let long : length q ≡ length m = length-sets m (28672 + t .end) (wokenIn t d m) in
             let long₃ : length m₃ ≡ length m = rw cleared-is (simp length-sets) in
             slice-from m₃ (28672 + t .end) n (omega arith)
@@ -96,7 +133,7 @@ module _ (t : Tables) (d : ℕ) (m : List ℕ) (ok : InRange t) (whole : 32768 �
             ∙ rw n-is (slice-sets (wokenIn t d m) m (28672 + t .end) (omega arith))
 
         pub moved-is : {n : ℕ} {m₄ : List ℕ} → n ≡ length (wokenIn t d m) → t .end + n ≤ 4096 → m₄ ≡ marks m₃ 2 (slice (28672 + t .end) (28672 + t .end + n) m₃)
-          → set m₄ (20480 + d) 3 ≡ movedMemory t d m
+            → set m₄ (20480 + d) 3 ≡ movedMemory t d m
         unfolding movedMemory
         moved-is n-is room marked = rw (marked, queue-is n-is room, cleared-is)
 
@@ -104,7 +141,7 @@ module _ (t : Tables) (d : ℕ) (m : List ℕ) (ok : InRange t) (whole : 32768 �
         marks-allowed n-is room = rw (queue-is n-is room) woken-below
 
       pub tables-are : {n : ℕ} → n ≡ length (wokenIn t d m)
-        → _≡_ {A = Tables} (record { tokens = t .tokens; count = t .count; first = t .first; end = t .end + n; held = kept - 24576 }) (movedTables t d m)
+          → _≡_ {A = Tables} (record { tokens = t .tokens; count = t .count; first = t .first; end = t .end + n; held = kept - 24576 }) (movedTables t d m)
       unfolding movedTables
       tables-are n-is =
           let h : 24576 + length (stayingIn t d m) - 24576 ≡ length (stayingIn t d m) = omega arith in

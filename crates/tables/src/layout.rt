@@ -1,0 +1,36 @@
+// The layout of the lent memory: 32,768 numbers of 16 bits.
+//
+//   0 .. 16384      the records, as in the plan file
+//   16384 .. 20480  for each token 1 + its record's position, or 0 for none
+//   20480 .. 24576  for each token its standing: 0 none of these, 1 deferred, 2 ready (in the queue now), 3 has finished pipe 0
+//   24576 .. 28672  the deferred table: `held` tokens in the order entered, then zeros
+//   28672 .. 32768  every token that became ready, in order; those at first .. end are queued
+//
+// The first three parts are the facts of the tokens. A pass that reads is handed them as a part of the memory.
+
+// Where the parts begin, after the records.
+pub(crate) const POSITIONS: usize = 16384;
+
+pub(crate) const STANDINGS: usize = 20480;
+
+pub(crate) const DEFERRED: usize = 24576;
+
+pub(crate) const READY: usize = 28672;
+
+// How many numbers are lent.
+pub const LENT: usize = 32768;
+
+// The most tokens, and so the room of each part that is by token.
+pub(crate) const TOKENS: u16 = 4096;
+
+// The most numbers in a record.
+pub(crate) const RECORD_NUMBERS: usize = 16;
+
+// The standings.
+pub(crate) const NO_MARK: u16 = 0;
+
+pub(crate) const DEFERRED_MARK: u16 = 1;
+
+pub(crate) const READY_MARK: u16 = 2;
+
+pub(crate) const FINISHED_MARK: u16 = 3;
