@@ -16,3 +16,5 @@ pub mod Filling
 pub mod OpenedParts
 pub mod OpenCases
 pub mod Opens
+-- every session of the code is as the demands say.
+pub mod CodeRuns

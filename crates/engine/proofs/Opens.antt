@@ -29,12 +29,12 @@ accepting : (o : Outcome) (workers : ℕ) (m : List ℕ) → openedBy (loadAs o 
 unfolding loadAs openedBy refusedWith within
 accepting (refused r) workers m e = let z : _≡_ {A = ℕ} 0 1 = cc in absurd (omega arith)
 accepting (accepted p) workers m e = by-test (leb 1 workers)
-  (λ some. by-test (leb workers 32)
+    (λ some. by-test (leb workers 32)
     (λ most. by-test (leb 32768 (length m))
-      (λ enough. (p, refl, record { some = leb-true 1 workers some; most = leb-true workers 32 most }, leb-true 32768 (length m) enough))
-      (λ little. let q = rw (some, most, little) at e in let z : _≡_ {A = ℕ} 0 1 = cc in absurd (omega arith)))
+    (λ enough. (p, refl, record { some = leb-true 1 workers some; most = leb-true workers 32 most }, leb-true 32768 (length m) enough))
+    (λ little. let q = rw (some, most, little) at e in let z : _≡_ {A = ℕ} 0 1 = cc in absurd (omega arith)))
     (λ many. let q = rw (some, many) at e in let z : _≡_ {A = ℕ} 0 1 = cc in absurd (omega arith)))
-  (λ none. let q = rw none at e in let z : _≡_ {A = ℕ} 0 1 = cc in absurd (omega arith))
+    (λ none. let q = rw none at e in let z : _≡_ {A = ℕ} 0 1 = cc in absurd (omega arith))
 
 -- what opening gives where nothing refuses it
 gives : (file : List ℕ) (workers : ℕ) (m : List ℕ) (p : Plan) → readOf file ≡ accepted p → WorkersInRange workers → 32768 ≤ length m →

@@ -2,16 +2,13 @@
 use mathlib.Core.Path.{_≡_, sym, ap, _∙_}
 use mathlib.Core.List.{List}
 use Prim.Native.Nat.{ℕ}
-use Rattle.rules.specs.declared.Line.{Line}
-use Rattle.rules.specs.declared.refusal.Refusal.{Refusal}
-use Rattle.rules.specs.Refusals.{numberOf}
-use Rattle.rules.specs.Choices.{choose}
+use Rattle.rules.specs.Choices.{Refused}
 use Rattle.rules.proofs.choices.Unchanged as rules
 use Rattle.tables.specs.Calls.{memorySource}
 use Rattle.engine.specs.declared.State.{State}
-use Rattle.rules.specs.declared.answer.Answer.{Answer}
 use Rattle.engine.specs.declared.Chosen.{Chosen}
 use Rattle.engine.specs.Machines.{machineOf, chosenOf}
+use Rattle.engine.specs.CodeRuns.{ChooseCall}
 use Rattle.rules.specs.Answers.{answerOf}
 
 -- two states and memories with one machine are one
@@ -32,10 +29,10 @@ same-state s t mem mem′ e = (
   λ i. e i .source .1,
 )
 
--- what `choose` ensures of its result and memory tells so of a refusal
-pub refused-unchanged : (s : State) (line : Line) (mem mem′ : List ℕ) (r : Chosen) (why : Refusal) →
-    chosenOf r mem′ ≡ choose memorySource (machineOf s mem) (line .0) → r .answer ≡ Answer.Refused why → (r .state ≡ s) × (mem′ ≡ mem)
-unfolding chosenOf answerOf
-refused-unchanged s line mem mem′ r why e refused =
-    same-state (r .state) s mem′ mem
-    (ap (λ c. c .machine) e ∙ rules.refused-unchanged (machineOf s mem) memorySource (line .0) (numberOf why) (sym (ap (λ c. c .answer) e) ∙ ap answerOf refused))
+-- a call of `choose` that is refused, in whatever state and memory
+pub refused-unchanged : (s : State) (m : List ℕ) (l : ℕ) (r : Chosen) (m′ : List ℕ) (n : ℕ) →
+    ChooseCall s m l r m′ → answerOf (r .answer) ≡ Refused n → (r .state ≡ s) × (m′ ≡ m)
+unfolding chosenOf
+refused-unchanged s m l r m′ n called told =
+    same-state (r .state) s m′ m
+    (ap (λ c. c .machine) called ∙ rules.refused-unchanged (machineOf s m) memorySource l n (sym (ap (λ c. c .answer) called) ∙ told))

@@ -1,14 +1,14 @@
 // A running line finishes.
-use rules::Answer;
 use crate::Chosen;
 use crate::State;
-use rules::Step;
 use crate::refuse;
+use rules::Answer;
 use rules::Line;
 use rules::Pipe;
 use rules::Place;
 use rules::Refusal;
 use rules::Slot;
+use rules::Step;
 use rules::Token;
 use tables::Released;
 use tables::Tables;

@@ -7,8 +7,8 @@ ghost use Rattle.rules.specs.Choices.{openedCounter};
 ghost use Rattle.rules.specs.PipeKinds.{kindOf};
 ghost use Rattle.opening.specs.Plans.{serialOf};
 ghost use Rattle.engine.specs.Opened.{openedCounters, freshState};
-use crate::ranges::full_value;
 use crate::State;
+use crate::ranges::full_value;
 use rules::PipeKind;
 
 // Which pipes are serial, by their file bytes.
@@ -56,7 +56,14 @@ pub(crate) fn counters(serial: [bool; 16], pipes: usize, lines: usize) -> [u8; 5
 }
 
 // A state whose lines wait at pipe 0 and that has placed no token.
-pub(crate) fn fresh(pipes: u16, lines: u16, workers: u16, serial: [bool; 16], counters: [u8; 512], tokens: u16) -> State
+pub(crate) fn fresh(
+    pipes: u16,
+    lines: u16,
+    workers: u16,
+    serial: [bool; 16],
+    counters: [u8; 512],
+    tokens: u16,
+) -> State
     ensures { λ r. ⌜ r ≡ freshState pipes lines workers serial counters tokens ⌝ }
 {
     let slot = rules::Slot {
@@ -65,7 +72,13 @@ pub(crate) fn fresh(pipes: u16, lines: u16, workers: u16, serial: [bool; 16], co
         token: rules::Token(0),
         place: rules::Place(0),
     };
-    let tables = tables::Tables { tokens: tokens, count: 0, first: 0, end: 0, held: 0 };
+    let tables = tables::Tables {
+        tokens: tokens,
+        count: 0,
+        first: 0,
+        end: 0,
+        held: 0,
+    };
     State {
         pipes: pipes,
         lines: lines,

@@ -6,10 +6,9 @@ mod ranges;
 mod running;
 mod starting;
 
-pub use beginning::open;
 pub use beginning::Opened;
 pub use beginning::Opening;
-
+pub use beginning::open;
 use rules::Answer;
 use rules::Line;
 use rules::Refusal;

@@ -1,15 +1,15 @@
 // A waiting line with counter 0 starts, or stops.
-use rules::Answer;
 use crate::Chosen;
 use crate::State;
-use rules::Step;
 use crate::ranges::full_value;
 use crate::refuse;
+use rules::Answer;
 use rules::Line;
 use rules::Pipe;
 use rules::Place;
 use rules::Refusal;
 use rules::Slot;
+use rules::Step;
 use rules::Token;
 use tables::Offer;
 use tables::Tables;

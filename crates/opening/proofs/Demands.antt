@@ -108,9 +108,9 @@ module _ (p : Plan) (valid : Valid p) (m : List ℕ) where
     same-machine : Alike (p .tokens) (numbers p) (follow (plainSource (p .tokens) (numbers p)) (opened (pipelineOf p) workers rules.opened) ls) (left p m workers ls)
     unfolding opened memorySide ruleSide
     same-machine = rw (
-        follow-map rule-side pair-opened ls pair-unspoiled,
-        follow-map memory-side pair-opened ls pair-unspoiled,
-      ) (sides-alike (follow pair pair-opened ls))
+      follow-map rule-side pair-opened ls pair-unspoiled,
+      follow-map memory-side pair-opened ls pair-unspoiled,
+    ) (sides-alike (follow pair pair-opened ls))
 
     -- each token after all that it deferred to
     in-order : (before after : List Answer) (l q t k : ℕ) → told p m workers ls ≡ before ++ (Started l q t k ∷ after) →
@@ -143,11 +143,12 @@ module _ (p : Plan) (valid : Valid p) (m : List ℕ) where
 
       stays-unstarted : (n : ℕ) → (has (deferredAtEnd p m workers ls) n ≡ true) ↔ ((n < p .tokens) × (IsStarted n (told p m workers ls) → ⊥))
       stays-unstarted n = rw table-is (
-          (λ h. let low = staying-below (p .tokens) (numbers p) (others valid) n h in
+        (λ h. let low = staying-below (p .tokens) (numbers p) (others valid) n h in
             (low, λ s. true≢false (sym h ∙ stays-or-written (p .tokens) (numbers p) (others valid) n low ∙ ap not (started-written n s)))),
-          λ (low, none). by-test (has (order p) n)
+        λ (low, none). by-test (has (order p) n)
             (λ e. absurd (none (written-started n e)))
-            (λ e. stays-or-written (p .tokens) (numbers p) (others valid) n low ∙ ap not e))
+            (λ e. stays-or-written (p .tokens) (numbers p) (others valid) n low ∙ ap not e),
+      )
 
 module _ (p : Plan) (valid : Valid p) where
   -- the opened memory is the same whatever was in it, but for what is beyond

@@ -34,8 +34,8 @@ CameAt event p k told = (l : ℕ) × (t : ℕ) × Came (event l p t k) told
 same-pair : (a b c d : ℕ) → 1 ≤ samePair a b c d → (c ≡ a) × (d ≡ b)
 unfolding samePair
 same-pair a b c d h = by-test (eqb c a)
-  (λ e. by-test (eqb d b) (λ f. (eqb-true c a e, eqb-true d b f)) (λ f. absurd (omega (arith, rw (e, f) at h))))
-  (λ e. absurd (omega (arith, rw e at h)))
+    (λ e. by-test (eqb d b) (λ f. (eqb-true c a e, eqb-true d b f)) (λ f. absurd (omega (arith, rw (e, f) at h))))
+    (λ e. absurd (omega (arith, rw e at h)))
 
 module _ (event : ℕ → ℕ → ℕ → ℕ → Answer) (p k : ℕ) where
   -- what came in the rest of a list came in the list
@@ -46,8 +46,8 @@ module _ (event : ℕ → ℕ → ℕ → ℕ → Answer) (p k : ℕ) where
   here-or-later : (l q t i : ℕ) (told : List Answer) (rest : ℕ) → 1 ≤ samePair p k q i + rest → (1 ≤ rest → CameAt event p k told) →
       CameAt event p k (event l q t i ∷ told)
   here-or-later l q t i told rest h behind = by-cases (decLe 1 (samePair p k q i))
-    (λ one. let (q-is, i-is) = same-pair p k q i one in (l, t, ([], told, rw (q-is, i-is))))
-    (λ none. later (behind (omega arith)))
+      (λ one. let (q-is, i-is) = same-pair p k q i one in (l, t, ([], told, rw (q-is, i-is))))
+      (λ none. later (behind (omega arith)))
 
 -- an event that is counted came
 pub started-came : (p k : ℕ) (told : List Answer) → 1 ≤ startsOf p k told → CameAt Started p k told

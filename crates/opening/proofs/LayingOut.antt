@@ -49,7 +49,7 @@ copied k l rest h =
     let k-is : length l + (k - length l) ≡ k = omega arith in
     ap (λ i. sets (zeros i ++ rest) 0 l) (sym k-is)
     ∙ rw (← zeros-append (length l) (k - length l), append-assoc (zeros (length l)) (zeros (k - length l)) rest)
-      (stored l (zeros (length l)) (zeros (k - length l) ++ rest) (length-zeros (length l)))
+    (stored l (zeros (length l)) (zeros (k - length l) ++ rest) (length-zeros (length l)))
 
 -- the place of a token below all records' tokens is 0
 place-none : (from floor : ℕ) (rs : List Record) (n : ℕ) → AscendingFrom floor (map (λ r. r .token) rs) → n < floor → placeOf from rs n ≡ 0
@@ -80,23 +80,23 @@ mark-at t from floor [] n up h = refl
 mark-at t from floor (r ∷ rs) n up h =
     let later = mark-at (set t (r .token) (from + 1)) (from + (2 + length (r .numbers))) (suc (r .token)) rs n (up .1) (rw length-set h) in
     by-cases (ℕ-discrete (r .token) n)
-      (λ e. later ∙ rw (
-          place-none (from + (2 + length (r .numbers))) (suc (r .token)) rs n (up .1) (omega arith),
-          eq-eqb (r .token) n e,
-          ne-eqb (suc from) 0 (omega arith),
-          add-one from,
-        ) (ap (λ i. getD (set t i (suc from)) n 0) e ∙ getD-set-same t n (suc from) 0 h))
-      (λ e. later ∙ rw (ne-eqb (r .token) n e, getD-set-other t (r .token) n (from + 1) 0 (λ q. e (sym q))))
+    (λ e. later ∙ rw (
+      place-none (from + (2 + length (r .numbers))) (suc (r .token)) rs n (up .1) (omega arith),
+      eq-eqb (r .token) n e,
+      ne-eqb (suc from) 0 (omega arith),
+      add-one from,
+    ) (ap (λ i. getD (set t i (suc from)) n 0) e ∙ getD-set-same t n (suc from) 0 h))
+    (λ e. later ∙ rw (ne-eqb (r .token) n e, getD-set-other t (r .token) n (from + 1) 0 (λ q. e (sym q))))
 
 -- so a table of zeros becomes the table of places
 places-are : (rs : List Record) → AscendingFrom 0 (map (λ r. r .token) rs) → (n : ℕ) → marksIn (zeros n) 0 rs ≡ table n (placeOf 0 rs)
 places-are rs up n = ext-getD 0 (marksIn (zeros n) 0 rs) (table n (placeOf 0 rs))
     (length-marks (zeros n) 0 rs ∙ length-zeros n ∙ sym (length-table n (placeOf 0 rs)))
     (λ i h.
-      let low : i < n = omega (arith, length-marks (zeros n) 0 rs, length-zeros n) in
-      mark-at (zeros n) 0 0 rs i up (omega (arith, length-zeros n))
-      ∙ rw (zeros-at n i) (if-zero (placeOf 0 rs i))
-      ∙ sym (getD-table n (placeOf 0 rs) i 0 low))
+    let low : i < n = omega (arith, length-marks (zeros n) 0 rs, length-zeros n) in
+    mark-at (zeros n) 0 0 rs i up (omega (arith, length-zeros n))
+    ∙ rw (zeros-at n i) (if-zero (placeOf 0 rs i))
+    ∙ sym (getD-table n (placeOf 0 rs) i 0 low))
 
 -- a store behind a list of known length
 set-behind : (xs ys : List ℕ) (i v : ℕ) → set (xs ++ ys) (length xs + i) v ≡ xs ++ set ys i v
@@ -136,17 +136,25 @@ module _ (part m : List ℕ) (rs : List Record) (spells : Spells part rs) where
 
   copied-is : copied-memory ≡ filledUp 16384 0 (recordsFields rs) ++ (zeros 4096 ++ (zeros 4096 ++ (zeros 8192 ++ drop 32768 m)))
   copied-is =
-      rw (← spells .bytes, fields-are rs, copied 32768 (recordsFields rs) (drop 32768 m) (omega (arith, spells .fits)),
-        zeros-parts (length (recordsFields rs)) (spells .fits), ← filled-zeros 16384 (recordsFields rs))
+      rw (
+        ← spells .bytes,
+        fields-are rs,
+        copied 32768 (recordsFields rs) (drop 32768 m) (omega (arith, spells .fits)),
+        zeros-parts (length (recordsFields rs)) (spells .fits),
+        ← filled-zeros 16384 (recordsFields rs),
+      )
       (inner (recordsFields rs) (zeros (16384 - length (recordsFields rs))) (zeros 4096) (zeros 4096) (zeros 8192) (drop 32768 m))
 
   -- clearing, copying and marking lays the memory out
   laid-out : pointed copied-memory 0 rs ≡ laidOut rs m
   unfolding laidOut laidFacts
   laid-out =
-      rw (copied-is, pointed-in (filledUp 16384 0 (recordsFields rs)) (zeros 4096) (zeros 4096 ++ (zeros 8192 ++ drop 32768 m)) 0 rs
-        (length-filled 16384 0 (recordsFields rs) (spells .fits)) (length-zeros 4096) (spells .each),
-        places-are rs (spells .ascending) 4096)
+      rw (
+        copied-is,
+        pointed-in (filledUp 16384 0 (recordsFields rs)) (zeros 4096) (zeros 4096 ++ (zeros 8192 ++ drop 32768 m)) 0 rs
+            (length-filled 16384 0 (recordsFields rs) (spells .fits)) (length-zeros 4096) (spells .each),
+        places-are rs (spells .ascending) 4096,
+      )
       (outer (filledUp 16384 0 (recordsFields rs)) (table 4096 (placeOf 0 rs)) (zeros 4096) (zeros 8192) (drop 32768 m))
 
   pub laid-by : {cleared stored-in marked : List ℕ} → cleared ≡ zeros 32768 ++ drop 32768 m → stored-in ≡ sets cleared 0 (fields part) →

@@ -40,8 +40,8 @@ placed : (tokens from : ℕ) (rs : List Record) (n : ℕ) → Every (ValidRecord
 unfolding placeOf recordsFields numbersOf
 placed tokens from [] n each = nowhere refl refl
 placed tokens from (r ∷ rs) n each = by-test (eqb (r .token) n)
-  (λ e. among (r .token ∷ []) (recordsFields rs) (omega arith) (rw e (omega arith)) (rw e) (rw e (each .0 .some)) (rw e (each .0 .most)))
-  (λ e. later e (placed tokens (from + (2 + length (r .numbers))) rs n (each .1)))
+    (λ e. among (r .token ∷ []) (recordsFields rs) (omega arith) (rw e (omega arith)) (rw e) (rw e (each .0 .some)) (rw e (each .0 .most)))
+    (λ e. later e (placed tokens (from + (2 + length (r .numbers))) rs n (each .1)))
   where
     later : eqb (r .token) n ≡ false → Placed (from + (2 + length (r .numbers))) rs n → Placed from (r ∷ rs) n
     later e (nowhere at lists) = nowhere (rw e at) (rw e lists)
@@ -90,8 +90,8 @@ length-zeros n = length-replicate n 0
 pub zeros-at : (n i : ℕ) → getD (zeros n) i 0 ≡ 0
 unfolding zeros
 zeros-at n i = by-cases (decLt i n)
-  (λ h. getD-replicate n i 0 0 h)
-  (λ h. List·getD-eq-default (replicate n 0) 0 (rw (length-replicate {A = ℕ} n 0) (omega arith)))
+    (λ h. getD-replicate n i 0 0 h)
+    (λ h. List·getD-eq-default (replicate n 0) 0 (rw (length-replicate {A = ℕ} n 0) (omega arith)))
 
 module _ (rs : List Record) (fits : length (recordsFields rs) ≤ 16384) where
   pub length-facts : length (laidFacts rs) ≡ 24576
@@ -132,7 +132,9 @@ module _ (rs : List Record) (fits : length (recordsFields rs) ≤ 16384) where
           let ns : List ℕ = numbersIn rs n in
           let rest : List ℕ = after ++ (replicate (16384 - length (recordsFields rs)) 0 ++ (table 4096 (placeOf 0 rs) ++ zeros 4096)) in
           let shape : laidFacts rs ≡ front ++ (length ns ∷ (ns ++ rest)) = regroup front (length ns) ns after _ _ are in
-          let short : length front + 1 + length ns ≤ 16384 = omega (arith, simp length-append at (ap length are)) in
-          (length front + 1, length front + 1 + length ns,
+          let short : length front + 1 + length ns ≤ 16384 = omega (arith, simp length-append at (ap length are)) in (
+            length front + 1,
+            length front + 1 + length ns,
             rw (place-at n h, at, zero-add) (part-at front ns rest (laidFacts rs) shape begun some most short),
-            numbers-at front ns rest (laidFacts rs) shape)
+            numbers-at front ns rest (laidFacts rs) shape,
+          )

@@ -56,7 +56,7 @@ pub loaded-read : (o : Outcome) (workers : ℕ) (m : List ℕ) (h : Header) → 
 unfolding loadAs within
 loaded-read (refused why) workers m h e = refl
 loaded-read (accepted p) workers m h e = by-test (within 1 32 workers)
-  (λ w. rw w (by-test (leb 32768 (length m))
+    (λ w. rw w (by-test (leb 32768 (length m))
     (λ enough. rw enough)
     (λ little. let q = rw (w, little) at e in let z : _≡_ {A = ℕ} 0 1 = cc in absurd (omega arith))))
-  (λ w. let q = rw w at e in let z : _≡_ {A = ℕ} 0 1 = cc in absurd (omega arith))
+    (λ w. let q = rw w at e in let z : _≡_ {A = ℕ} 0 1 = cc in absurd (omega arith))

@@ -23,14 +23,17 @@ use Rattle.opening.proofs.ValidPlans.{fits}
 -- valid records of fewer tokens are valid records of more
 more-tokens : (few many : ℕ) → few ≤ many → (rs : List Record) → Every (ValidRecord few) rs → Every (ValidRecord many) rs
 more-tokens few many h [] each = tt
-more-tokens few many h (r ∷ rs) each = (record {
+more-tokens few many h (r ∷ rs) each = (
+  record {
     entered = omega (arith, each .0 .entered);
     some = each .0 .some;
     most = each .0 .most;
     ascending = each .0 .ascending;
     others = each .0 .others;
     fields = each .0 .fields;
-  }, more-tokens few many h rs (each .1))
+  },
+  more-tokens few many h rs (each .1),
+)
 
 pub record PlanRead (file : List ℕ) (h : Header) : Type 0 where
   pub plan : Plan

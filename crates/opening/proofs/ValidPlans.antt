@@ -28,8 +28,8 @@ use Rattle.opening.proofs.LayoutLaws.{length-fields, length-zeros, leng
 -- a list of `false` has nothing else
 falses-at : (n i : ℕ) → getD (replicate n false) i false ≡ false
 falses-at n i = by-cases (decLt i n)
-  (λ h. getD-replicate n i false false h)
-  (λ h. List·getD-eq-default (replicate n false) false (rw (length-replicate {A = Bool} n false) (omega arith)))
+    (λ h. getD-replicate n i false false h)
+    (λ h. List·getD-eq-default (replicate n false) false (rw (length-replicate {A = Bool} n false) (omega arith)))
 
 -- pipe 0 is serial
 first-serial : (kinds : List PipeKind) → FirstSerial kinds → (0 < length kinds) × (getD (serialOf kinds) 0 false ≡ true)
@@ -54,8 +54,8 @@ none-self : (tokens : ℕ) (rs : List Record) → Every (ValidRecord tokens) rs 
 unfolding numbersOf has
 none-self tokens [] each n = refl
 none-self tokens (r ∷ rs) each n = by-test (eqb (r .token) n)
-  (λ e. rw e (rw (eqb-true (r .token) n e) at (has-not (r .token) (r .numbers) (each .0 .others))))
-  (λ e. rw e (none-self tokens rs (each .1) n))
+    (λ e. rw e (rw (eqb-true (r .token) n e) at (has-not (r .token) (r .numbers) (each .0 .others))))
+    (λ e. rw e (none-self tokens rs (each .1) n))
 
 module _ {p : Plan} (valid : Valid p) where
   pub ranged : PipelineInRange (pipelineOf p)
