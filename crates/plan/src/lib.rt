@@ -10,6 +10,7 @@ mod trailer;
 mod verdict;
 
 use rules::Refusal;
+pub use trailer::field_or_zero;
 pub use trailer::Header;
 pub use verdict::Check;
 
