@@ -1,5 +1,6 @@
 // A running line finishes.
 use crate::Chosen;
+use crate::limits::COUNTERS_OF_LINE;
 use crate::State;
 use crate::refuse;
 use rules::Answer;
@@ -95,11 +96,11 @@ fn both_falls(s: State, l: u16) -> Fallen
     let flag = s.serial[pipe as usize];
     let counters = s.counters;
     let line_after = next_of(s.lines, l);
-    let first = fall(counters, 16 * (line_after as usize) + pipe as usize, flag);
+    let first = fall(counters, COUNTERS_OF_LINE * (line_after as usize) + pipe as usize, flag);
     if first.ok {
         let fallen = first.counters;
         let pipe_after = next_of(s.pipes, pipe);
-        return fall(fallen, 16 * (l as usize) + pipe_after as usize, true);
+        return fall(fallen, COUNTERS_OF_LINE * (l as usize) + pipe_after as usize, true);
     }
     first
 }

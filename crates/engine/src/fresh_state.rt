@@ -8,7 +8,7 @@ ghost use Rattle.rules.specs.PipeKinds.{kindOf};
 ghost use Rattle.opening.specs.Plans.{serialOf};
 ghost use Rattle.engine.specs.Opened.{openedCounters, freshState};
 use crate::State;
-use crate::ranges::full_value;
+use crate::limits::{COUNTERS, COUNTERS_OF_LINE, FLAGS, SLOTS};
 use rules::PipeKind;
 
 // Which pipes are serial, by their file bytes.
@@ -16,7 +16,7 @@ pub(crate) fn serials(bytes: &[u8]) -> [bool; 16]
     requires { ⌜ length (now bytes) ≤ 16 ⌝ }
     ensures { λ r. ⌜ r ≡ serialOf (map kindOf (now (bytes .entry))) ⌝ }
 {
-    let mut serial = [false; 16];
+    let mut serial = [false; FLAGS];
     for p in 0..bytes.len() {
         let b = bytes[p];
         serial[p] = b == PipeKind::SERIAL_BYTE;
@@ -37,7 +37,8 @@ fn counter(line: usize, pipe: usize, serial: bool) -> u8
     if pipe == 0 {
         return 1;
     }
-    full_value(serial)
+    let kind = PipeKind::from_flag(serial);
+    kind.full()
 }
 
 // All counters: those of the plan's lines and pipes, and 0 for the unused ones.
@@ -45,11 +46,11 @@ pub(crate) fn counters(serial: [bool; 16], pipes: usize, lines: usize) -> [u8; 5
     requires { ⌜ (pipes ≤ 16) × (lines ≤ 32) ⌝ }
     ensures { λ r. ⌜ r ≡ openedCounters serial pipes lines ⌝ }
 {
-    let mut c = [0; 512];
+    let mut c = [0; COUNTERS];
     for line in 0..lines {
         for pipe in 0..pipes {
             let s = serial[pipe];
-            c[16 * line + pipe] = counter(line, pipe, s);
+            c[COUNTERS_OF_LINE * line + pipe] = counter(line, pipe, s);
         }
     }
     c
@@ -85,7 +86,7 @@ pub(crate) fn fresh(
         workers: workers,
         serial: serial,
         counters: counters,
-        slots: [slot; 32],
+        slots: [slot; SLOTS],
         placed: 0,
         stopped: false,
         tables: tables,

@@ -1,11 +1,12 @@
 // A waiting line with counter 0 starts, or stops.
 use crate::Chosen;
 use crate::State;
-use crate::ranges::full_value;
+use crate::limits::COUNTERS_OF_LINE;
 use crate::refuse;
 use rules::Answer;
 use rules::Line;
 use rules::Pipe;
+use rules::PipeKind;
 use rules::Place;
 use rules::Refusal;
 use rules::Slot;
@@ -29,9 +30,10 @@ fn refill(s: State, l: usize, p: usize) -> [u8; 512]
     ensures { λ r. ⌜ ((m : List ℕ) → r ≡ filled (machineOf s m) l p) ⌝ }
 {
     let flag = s.serial[p];
-    let at = 16 * l + p;
+    let at = COUNTERS_OF_LINE * l + p;
     let mut counters = s.counters;
-    counters[at] = full_value(flag);
+    let kind = PipeKind::from_flag(flag);
+    counters[at] = kind.full();
     counters
 }
 
