@@ -33,9 +33,9 @@ use Rattle.engine.specs.CodeRuns.{OpenCall, Calls, no-call, call, Sessio
 use Rattle.engine.specs.declared.State.{State}
 use Rattle.engine.specs.declared.beginning.Opening.{Opening}
 use Rattle.engine.specs.declared.beginning.Opened.{Opened}
-use Rattle.engine.proofs.Opens.{opened-run}
-use Rattle.engine.proofs.SoundLaws.{ended-is as ended-as-rules}
-use Rattle.engine.proofs.Unchanged.{refused-unchanged}
+use Rattle.engine.proofs.openings.Opens.{opened-run}
+use Rattle.engine.proofs.in_range.SoundLaws.{ended-is as ended-as-rules}
+use Rattle.engine.proofs.moves.Unchanged.{refused-unchanged}
 
 -- the calls' answers and the machine that they leave are those of the rules' lists of choices
 calls-told : {s t : State} {m end ls : List ℕ} {told : List Answer} → Calls s m ls told t end →

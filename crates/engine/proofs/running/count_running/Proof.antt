@@ -3,7 +3,7 @@ use mathlib.Core.Path.{_≡_}
 use Prim.Native.Nat.{_-_, _≤_}
 use native.Mathlib.Omega.{arith}
 use Rattle.rules.specs.Choices.{runningBelow}
-use Rattle.engine.proofs.Lines as laws
+use Rattle.engine.proofs.moves.Lines as laws
 use Rattle.engine.proofs.running.count_running.Statement.{statement}
 use Rattle.engine.proofs.running.count_running.Tie as tie
 

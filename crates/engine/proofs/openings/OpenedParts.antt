@@ -16,7 +16,7 @@ use Rattle.rules.specs.PipeKinds.{kindOf}
 use Rattle.opening.specs.Plans.{serialOf}
 use Rattle.rules.specs.PipeKinds.{serialKind}
 use Rattle.engine.specs.Opened.{openedCounters}
-use Rattle.engine.proofs.Filling.{Filled, filled-first, filled-store, filled-skip, filled-all}
+use Rattle.engine.proofs.openings.Filling.{Filled, filled-first, filled-store, filled-skip, filled-all}
 
 module _ (serial : List Bool) (pipes lines : ℕ) where
   abbrev frame : Pipeline

@@ -23,7 +23,7 @@ use Rattle.tables.specs.Matching.{Recorded}
 use Rattle.opening.specs.Plans.{numbersIn, serialOf, pipelineOf}
 use Rattle.rules.specs.PipeKinds.{serialKind}
 use Rattle.opening.specs.Layout.{recordsFields, zeros, laidFacts, laidOut}
-use Rattle.opening.proofs.LayoutLaws.{length-fields, length-zeros, length-facts, laid-standing, laid-recorded}
+use Rattle.opening.proofs.memory_laid.LayoutLaws.{length-fields, length-zeros, length-facts, laid-standing, laid-recorded}
 
 -- a list of `false` has nothing else
 falses-at : (n i : ℕ) → getD (replicate n false) i false ≡ false

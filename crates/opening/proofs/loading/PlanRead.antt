@@ -18,7 +18,7 @@ use Rattle.plan.specs.declared.Reading.{Reading}
 use Rattle.plan.proofs.CompleteParts.{kinds-complete, records-complete, length-records}
 use Rattle.plan.proofs.Theorem.{read-exactly, accepted-exactly}
 use Rattle.opening.specs.Layout.{Spells}
-use Rattle.opening.proofs.ValidPlans.{fits}
+use Rattle.opening.proofs.memory_laid.ValidPlans.{fits}
 
 -- valid records of fewer tokens are valid records of more
 more-tokens : (few many : ℕ) → few ≤ many → (rs : List Record) → Every (ValidRecord few) rs → Every (ValidRecord many) rs

@@ -18,8 +18,8 @@ use Rattle.engine.specs.declared.State.{State}
 use Rattle.engine.specs.declared.Chosen.{Chosen}
 use Rattle.engine.specs.Machines.{machineOf, refusedBy, chosenOf}
 use Rattle.engine.specs.Moves.{Ready, slotAt, endedOf}
-use Rattle.engine.proofs.Parts.{refused}
-use Rattle.engine.proofs.SoundLaws as sound
+use Rattle.engine.proofs.moves.Parts.{refused}
+use Rattle.engine.proofs.in_range.SoundLaws as sound
 
 module _ (s : State) (line : Line) (mem : List ℕ) where
   -- the line's slot and its counter, and the machine

@@ -12,8 +12,8 @@ use Rattle.plan.specs.declared.trailer.Header.{Header}
 use Rattle.plan.specs.declared.Reading.{Reading}
 use Rattle.opening.specs.Plans.{serialOf}
 use Rattle.opening.specs.Loading.{loadOf}
-use Rattle.opening.proofs.PlanRead.{PlanRead, refused-read}
-use Rattle.opening.proofs.LoadCases.{loaded-read}
+use Rattle.opening.proofs.loading.PlanRead.{PlanRead, refused-read}
+use Rattle.opening.proofs.loading.LoadCases.{loaded-read}
 use Rattle.engine.specs.declared.State.{State}
 use Rattle.engine.specs.declared.beginning.Opening.{Opening}
 use Rattle.engine.specs.declared.beginning.Opened.{Opened}

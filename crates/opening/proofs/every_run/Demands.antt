@@ -34,8 +34,8 @@ use Rattle.tables.proofs.Refines.{opened-match}
 use Rattle.opening.specs.Plans.{pipelineOf}
 use Rattle.opening.specs.Layout.{zeros, laidFacts, laidOut}
 use Rattle.opening.specs.Demands.{Came, IsStarted, Alike, numbers, order, begun, told, left, deferredAtEnd, Run, endState, Demands}
-use Rattle.opening.proofs.ValidPlans.{ranged, others, length-laid, whole, recorded, unmarked}
-use Rattle.opening.proofs.Events.{every-came, came-token, started-came, finished-came}
+use Rattle.opening.proofs.memory_laid.ValidPlans.{ranged, others, length-laid, whole, recorded, unmarked}
+use Rattle.opening.proofs.every_run.Events.{every-came, came-token, started-came, finished-came}
 
 -- two lists before another, where a third between them is empty
 spread : (a b c : List ℕ) {e : List ℕ} → e ≡ [] → a ++ (b ++ c) ≡ (a ++ (b ++ e)) ++ c

@@ -17,7 +17,7 @@ use Rattle.plan.specs.Reading.{Outcome, accepted, refused, readOf}
 use Rattle.plan.proofs.Theorem.{read-exactly}
 use Rattle.opening.specs.Layout.{laidOut}
 use Rattle.opening.specs.Loading.{loadAs}
-use Rattle.opening.proofs.Demands.{demands}
+use Rattle.opening.proofs.every_run.Demands.{demands}
 use Rattle.engine.specs.declared.beginning.Opening.{Opening}
 use Rattle.engine.specs.declared.beginning.Opened.{Opened}
 use Rattle.engine.specs.Machines.{machineOf}

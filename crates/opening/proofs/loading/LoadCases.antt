@@ -15,7 +15,7 @@ use Rattle.plan.specs.declared.trailer.Header.{Header}
 use Rattle.plan.specs.declared.Reading.{Reading}
 use Rattle.opening.specs.Layout.{laidOut}
 use Rattle.opening.specs.Loading.{loadAs, loadOf}
-use Rattle.opening.proofs.PlanRead.{PlanRead, refused-read}
+use Rattle.opening.proofs.loading.PlanRead.{PlanRead, refused-read}
 
 -- what is returned and left in memory is what loading must give
 abbrev pub Gives : List ℕ → ℕ → List ℕ → Reading → List ℕ → Type 0

@@ -29,8 +29,8 @@ use Rattle.engine.specs.Machines.{machineOf, refusedBy, chosenOf}
 use Rattle.rules.specs.Answers.{answerOf}
 use Rattle.engine.specs.Moves.{slotAt, isTook, overfullOf}
 use Rattle.rules.proofs.lists.Tests.{by-test}
-use Rattle.engine.proofs.Parts.{withParts, parts, refused}
-use Rattle.engine.proofs.Kept.{was-spoiled, was-nothing, was-took}
+use Rattle.engine.proofs.moves.Parts.{withParts, parts, refused}
+use Rattle.engine.proofs.moves.Kept.{was-spoiled, was-nothing, was-took}
 
 -- whether a token is offered
 abbrev isToken : Offer → Bool

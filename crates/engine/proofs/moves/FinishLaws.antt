@@ -29,8 +29,8 @@ use Rattle.engine.specs.Machines.{machineOf, refusedBy, chosenOf}
 use Rattle.rules.specs.Answers.{answerOf}
 use Rattle.engine.specs.Moves.{slotAt, fallenOf, firstOf, bothOf, finishedOf}
 use Rattle.rules.proofs.lists.Tests.{by-test, if-holds, if-fails}
-use Rattle.engine.proofs.Parts.{withParts, parts, refused}
-use Rattle.engine.proofs.Kept.{was-broken, was-passed}
+use Rattle.engine.proofs.moves.Parts.{withParts, parts, refused}
+use Rattle.engine.proofs.moves.Kept.{was-broken, was-passed}
 
 -- the number after is one of the numbers
 pub next-less : (n i : ℕ) {r : ℕ} → i < n → r ≡ next n i → r < n

@@ -21,7 +21,7 @@ use Rattle.plan.proofs.CompleteParts.{length-records}
 use Rattle.plan.proofs.Fields.{joined}
 use Rattle.opening.specs.Plans.{filledUp}
 use Rattle.opening.specs.Layout.{recordFields, recordsFields, placeOf, zeros, laidFacts, laidOut, Spells, pointed}
-use Rattle.opening.proofs.LayoutLaws.{length-fields, length-zeros, length-filled, zeros-at}
+use Rattle.opening.proofs.memory_laid.LayoutLaws.{length-fields, length-zeros, length-filled, zeros-at}
 
 -- the fields of records' bytes are those of the records
 fields-append : (ns s : List ℕ) → fields (fieldBytes ns ++ s) ≡ ns ++ fields s
