@@ -22,7 +22,7 @@ ghost use Rattle.rules.specs.Sources.{Nothing, Took};
 ghost use Rattle.rules.specs.Choices.{filled, start as startedBy, startFirst, startLater};
 ghost use Rattle.tables.specs.Calls.{memorySource, safeTake};
 ghost use Rattle.engine.specs.Machines.{machineOf, chosenOf};
-ghost use Rattle.engine.specs.Moves.{Ready, slotAt, overfullOf};
+ghost use Rattle.engine.specs.Moves.{Ready, overfullOf};
 
 // The counters with that of a line and pipe full again.
 fn refill(s: State, l: usize, p: usize) -> [u8; 512]
@@ -37,13 +37,12 @@ fn refill(s: State, l: usize, p: usize) -> [u8; 512]
     counters
 }
 
-// A start at a later pipe.
-fn start_later(s: State, line: Line) -> Chosen
-    requires { ⌜ Ready s (line .0) ⌝ }
-    ensures { λ r. ⌜ ((m : List ℕ) → chosenOf r m ≡ startLater memorySource (machineOf s m) (line .0) (slotAt s (line .0))) ⌝ }
+// The line starts the pipe of this slot, with its token and place.
+fn start_at(s: State, line: Line, slot: Slot) -> Chosen
+    requires { ⌜ (line .0 < 32) × (slot .pipe .0 < 16) ⌝ }
+    ensures { λ r. ⌜ ((m : List ℕ) → chosenOf r m ≡ startLater memorySource (machineOf s m) (line .0) slot) ⌝ }
 {
     let l = line.0 as usize;
-    let slot = s.slots[l];
     let pipe = slot.pipe;
     let token = slot.token;
     let place = slot.place;
@@ -73,30 +72,18 @@ fn start_with(s: State, line: Line, token: u16, t: Tables) -> Chosen
     requires { ⌜ (t .tokens ≡ s .tables .tokens) × (s .placed < s .tables .tokens) ⌝ }
     ensures { λ r. ⌜ ((m m′ : List ℕ) → chosenOf r m′ ≡ startFirst memorySource (machineOf s m) (line .0) (Took token (t, m′))) ⌝ }
 {
-    let l = line.0 as usize;
-    let pipe = Pipe(0);
     let token = Token(token);
     let place = Place(s.placed);
-    let counters = refill(s, l, 0);
-    let mut next = s;
-    next.counters = counters;
-    next.slots[l] = Slot {
-        pipe,
-        running: true,
+    let slot = Slot {
+        pipe: Pipe(0),
+        running: false,
         token,
         place,
     };
+    let mut next = s;
     next.placed = s.placed + 1;
     next.tables = t;
-    Chosen {
-        answer: Answer::Started(Step {
-            line,
-            pipe,
-            token,
-            place,
-        }),
-        state: next,
-    }
+    start_at(next, line, slot)
 }
 
 // A stop: no token is left.
@@ -158,5 +145,5 @@ pub(crate) fn start(s: State, mem: &mut [u16], line: Line) -> Chosen
     if slot.pipe.0 == 0 {
         return start_first(s, mem, line);
     }
-    start_later(s, line)
+    start_at(s, line, slot)
 }

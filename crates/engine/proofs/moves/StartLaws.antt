@@ -13,7 +13,7 @@ use Rattle.rules.specs.declared.Line.{Line}
 use Rattle.rules.specs.declared.Slot.{Slot}
 use Rattle.rules.specs.declared.refusal.Refusal.{Refusal}
 use Rattle.rules.specs.Sources.{Taken as Outcome, Spoiled, Nothing, Took}
-use Rattle.rules.specs.RunState.{runs}
+use Rattle.rules.specs.RunState.{waits}
 use Rattle.rules.specs.Choices.{filled, refuse, start, startFirst, startLater}
 use Rattle.rules.specs.Choices as rules
 use Rattle.tables.specs.declared.Tables.{Tables}
@@ -78,29 +78,24 @@ module _ (s : State) (line : Line) where
   unfolding chosenOf answerOf startFirst machineOf
   stop-is t same c-is m m′ = parts s m m′ same (c-is m) refl refl
 
-  -- a start with a token that was taken
-  pub took-is : (t : Tables) {c : List ℕ} (token : ℕ) → t .tokens ≡ s .tables .tokens → s .placed < s .tables .tokens →
-      ((m : List ℕ) → c ≡ filled (machineOf s m) (line .0) 0) → (m m′ : List ℕ) →
+  -- a start at the pipe of a slot, with its token and place
+  pub started-is : (slot : Slot) {c : List ℕ} → ((m : List ℕ) → c ≡ filled (machineOf s m) (line .0) (slot .pipe .0)) → (m : List ℕ) →
       chosenOf (record {
-        answer = Answer.Started (record { line = line; pipe = record { 0 = 0 }; token = record { 0 = token }; place = record { 0 = s .placed } });
-        state = withParts s c (set (s .slots) (line .0) (runs 0 token (s .placed))) (s .placed + 1) (s .stopped) t;
-      }) m′ ≡
-      startFirst memorySource (machineOf s m) (line .0) (Took token (t, m′))
-  unfolding chosenOf answerOf startFirst machineOf
-  took-is t token same room c-is m m′ =
-      rw (lt-ltb (s .placed) (s .tables .tokens) room)
-      (parts s m m′ same (c-is m) refl (add-one (s .placed)))
-
-  -- a start at a later pipe
-  pub later-is : {c : List ℕ} → ((m : List ℕ) → c ≡ filled (machineOf s m) (line .0) (here .pipe .0)) → (m : List ℕ) →
-      chosenOf (record {
-        answer = Answer.Started (record { line = line; pipe = here .pipe; token = here .token; place = here .place });
-        state = withParts s c (set (s .slots) (line .0) (record { pipe = here .pipe; running = true; token = here .token; place = here .place }))
+        answer = Answer.Started (record { line = line; pipe = slot .pipe; token = slot .token; place = slot .place });
+        state = withParts s c (set (s .slots) (line .0) (record { pipe = slot .pipe; running = true; token = slot .token; place = slot .place }))
             (s .placed) (s .stopped) (s .tables);
       }) m ≡
-      startLater memorySource (machineOf s m) (line .0) here
+      startLater memorySource (machineOf s m) (line .0) slot
   unfolding chosenOf answerOf startLater machineOf
-  later-is c-is m = parts s m m refl (c-is m) refl refl
+  started-is slot c-is m = parts s m m refl (c-is m) refl refl
+
+  -- a start with a token that was taken
+  pub took-is : (t : Tables) (r : Chosen) (token : ℕ) → t .tokens ≡ s .tables .tokens → s .placed < s .tables .tokens →
+      ((m : List ℕ) → chosenOf r m ≡ startLater memorySource (machineOf (withParts s (s .counters) (s .slots) (s .placed + 1) (s .stopped) t) m)
+      (line .0) (waits 0 token (s .placed))) → (m m′ : List ℕ) → chosenOf r m′ ≡ startFirst memorySource (machineOf s m) (line .0) (Took token (t, m′))
+  unfolding startFirst startLater machineOf
+  took-is t r token same room r-is m m′ =
+      r-is m′ ∙ rw (lt-ltb (s .placed) (s .tables .tokens) room) (parts s m m′ same refl refl (add-one (s .placed)))
 
   -- a token that no place is left for is refused
   over : (m : List ℕ) (o : Outcome tables.State) → if (ltb (s .placed) (s .tables .tokens)) false (isTook o) ≡ true →
