@@ -4,7 +4,6 @@ use mathlib.Core.Bool.{true}
 use mathlib.Core.List.{List, [], _∷_, _++_, map}
 use Prim.Native.Nat.{ℕ, _≤_}
 use native.Mathlib.Omega.{arith}
-use lib.Dec.{leb}
 use lib.ListN.{length, drop}
 use lib.Seq.{drop-at}
 use Rattle.rules.specs.Lists.{Every, within}
@@ -19,21 +18,20 @@ use Rattle.rules.specs.declared.refusal.Refusal.{Refusal}
 use Rattle.rules.proofs.lists.Tests.{by-test}
 use Rattle.plan.specs.Bytes.{Bytes}
 use Rattle.plan.specs.Plan.{Plan, Valid, encode}
-use Rattle.plan.specs.Reading.{Outcome, accepted, refused, readOf}
+use Rattle.plan.specs.Reading.{refused, readOf}
 use Rattle.plan.proofs.Theorem.{one-plan}
 use Rattle.tables.specs.State as tables
 use Rattle.tables.specs.Calls.{memorySource}
 use Rattle.opening.specs.Plans.{pipelineOf}
 use Rattle.opening.specs.Demands.{begun, told, left, endState, Run, Demands}
-use Rattle.opening.specs.Loading.{loadAs}
 use Rattle.engine.specs.Machines.{machineOf, chosenOf}
 use Rattle.engine.specs.Moves.{endedOf}
-use Rattle.engine.specs.Opened.{stateOf, openOf, openedBy, refusedWith, openedWith, OpenedRun}
+use Rattle.engine.specs.Opened.{stateOf, openOf, refusedWith, OpenedRun}
 use Rattle.engine.specs.CodeRuns.{OpenCall, Calls, no-call, call, Session, eventsOf, Shows, SameEnd, CodeDemands, RefusedOpening}
 use Rattle.engine.specs.declared.State.{State}
 use Rattle.engine.specs.declared.beginning.Opening.{Opening}
 use Rattle.engine.specs.declared.beginning.Opened.{Opened}
-use Rattle.engine.proofs.openings.Opens.{opened-run}
+use Rattle.engine.proofs.openings.Opens.{refusing, opened-run}
 use Rattle.engine.proofs.in_range.SoundLaws.{ended-is as ended-as-rules}
 use Rattle.engine.proofs.moves.Unchanged.{refused-unchanged}
 
@@ -165,17 +163,6 @@ module _ {file : List ℕ} (bytes : Bytes file) where
 zeros-refused : (why : Refusal) (m : List ℕ) (l : ℕ) → choose memorySource (machineOf (refusedWith why .state) m) l .answer ≡ Refused 14
 unfolding choose sound numbersSound within machineOf refusedWith
 zeros-refused why m l = refl
-
--- a refusing outcome
-refusing : (o : Outcome) (workers : ℕ) (m : List ℕ) (why : Refusal) → openedBy (loadAs o workers m .0) workers m .answer ≡ Opening.Refused why →
-    (openedBy (loadAs o workers m .0) workers m ≡ refusedWith why) × (loadAs o workers m .1 ≡ m)
-unfolding loadAs openedBy openedWith refusedWith
-refusing (refused r) workers m why e = (λ i. record { answer = e i; state = refusedWith why .state }, refl)
-refusing (accepted p) workers m why e = by-test (within 1 32 workers)
-    (λ some. by-test (leb 32768 (length m))
-    (λ enough. let q = rw (some, enough) at e in let z : _≡_ {A = ℕ} 0 1 = cc in absurd (omega arith))
-    (λ little. let q = rw (some, little) at e in rw (some, little) (λ i. record { answer = q i; state = refusedWith why .state }, refl)))
-    (λ none. let q = rw none at e in rw none (λ i. record { answer = q i; state = refusedWith why .state }, refl))
 
 -- a refused opening writes nothing, and a choice on what it returns gets 14
 pub refused-opening : (file : List ℕ) (workers : ℕ) (m : List ℕ) (o : Opened) (m′ : List ℕ) (why : Refusal) →

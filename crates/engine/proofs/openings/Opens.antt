@@ -4,19 +4,19 @@ use mathlib.Core.Logic.{_↔_}
 use mathlib.Core.List.{List}
 use Prim.Native.Nat.{ℕ, _≤_}
 use native.Mathlib.Omega.{arith}
-use borrow.Author.Tests.{leb-true, le-leb}
-use lib.Dec.{leb}
+use borrow.Author.Tests.{le-leb}
 use lib.ListN.{length}
 use Rattle.rules.specs.Lists.{within}
 use Rattle.rules.specs.Choices.{opened}
 use Rattle.rules.specs.WholeRuns.{WorkersInRange}
-use Rattle.rules.proofs.lists.Tests.{by-test}
+use Rattle.rules.specs.declared.refusal.Refusal.{Refusal}
 use Rattle.plan.specs.Bytes.{Bytes}
 use Rattle.plan.specs.Plan.{Plan, Valid, encode}
-use Rattle.plan.specs.Reading.{Outcome, accepted, refused, readOf}
+use Rattle.plan.specs.Reading.{Outcome, accepted, readOf}
 use Rattle.plan.proofs.Theorem.{read-exactly}
 use Rattle.opening.specs.Layout.{laidOut}
 use Rattle.opening.specs.Loading.{loadAs}
+use Rattle.opening.proofs.loading.LoadCases.{turned-down, laid, loading}
 use Rattle.opening.proofs.every_run.Demands.{demands}
 use Rattle.engine.specs.declared.beginning.Opening.{Opening}
 use Rattle.engine.specs.declared.beginning.Opened.{Opened}
@@ -26,15 +26,20 @@ use Rattle.engine.specs.Opened.{openedWith, refusedWith, openedBy, openO
 -- what an accepting outcome tells
 accepting : (o : Outcome) (workers : ℕ) (m : List ℕ) → openedBy (loadAs o workers m .0) workers m .answer ≡ Opening.Accepted →
     (p : Plan) × (o ≡ accepted p) × WorkersInRange workers × (32768 ≤ length m)
-unfolding loadAs openedBy refusedWith within
-accepting (refused r) workers m e = let z : _≡_ {A = ℕ} 0 1 = cc in absurd (omega arith)
-accepting (accepted p) workers m e = by-test (leb 1 workers)
-    (λ some. by-test (leb workers 32)
-    (λ most. by-test (leb 32768 (length m))
-    (λ enough. (p, refl, record { some = leb-true 1 workers some; most = leb-true workers 32 most }, leb-true 32768 (length m) enough))
-    (λ little. let q = rw (some, most, little) at e in let z : _≡_ {A = ℕ} 0 1 = cc in absurd (omega arith)))
-    (λ many. let q = rw (some, many) at e in let z : _≡_ {A = ℕ} 0 1 = cc in absurd (omega arith)))
-    (λ none. let q = rw none at e in let z : _≡_ {A = ℕ} 0 1 = cc in absurd (omega arith))
+unfolding openedBy refusedWith
+accepting o workers m e = elim (loading o workers m) [
+  | turned-down why is ↦ let q = rw is at e in let z : _≡_ {A = ℕ} 0 1 = cc in absurd (omega arith)
+  | laid p o-is manned enough is ↦ (p, o-is, manned, enough)
+]
+
+-- what a refusing one tells
+pub refusing : (o : Outcome) (workers : ℕ) (m : List ℕ) (why : Refusal) → openedBy (loadAs o workers m .0) workers m .answer ≡ Opening.Refused why →
+    (openedBy (loadAs o workers m .0) workers m ≡ refusedWith why) × (loadAs o workers m .1 ≡ m)
+unfolding openedBy openedWith refusedWith
+refusing o workers m why e = elim (loading o workers m) [
+  | turned-down r is ↦ let q = rw is at e in rw is (λ i. record { answer = q i; state = refusedWith why .state }, refl)
+  | laid p o-is manned enough is ↦ let q = rw is at e in let z : _≡_ {A = ℕ} 0 1 = cc in absurd (omega arith)
+]
 
 -- what opening gives where nothing refuses it
 gives : (file : List ℕ) (workers : ℕ) (m : List ℕ) (p : Plan) → readOf file ≡ accepted p → WorkersInRange workers → 32768 ≤ length m →

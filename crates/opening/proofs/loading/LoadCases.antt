@@ -3,12 +3,14 @@ use mathlib.Core.Path.{_≡_, refl, sym, ap, _∙_}
 use mathlib.Core.List.{List}
 use Prim.Native.Nat.{ℕ, _≤_, _<_}
 use native.Mathlib.Omega.{arith}
-use borrow.Author.Tests.{le-leb, lt-leb}
+use borrow.Author.Tests.{le-leb, lt-leb, leb-true}
 use lib.Dec.{leb}
 use lib.ListN.{length, take}
 use Rattle.rules.specs.Lists.{within}
 use Rattle.rules.specs.declared.refusal.Refusal.{Refusal}
 use Rattle.rules.proofs.lists.Tests.{by-test}
+use Rattle.rules.specs.WholeRuns.{WorkersInRange}
+use Rattle.plan.specs.Plan.{Plan}
 use Rattle.plan.specs.Records.{recordsIn}
 use Rattle.plan.specs.Reading.{Outcome, accepted, refused, readOf, readingOf}
 use Rattle.plan.specs.declared.trailer.Header.{Header}
@@ -51,12 +53,28 @@ module _ (file : List ℕ) (workers : ℕ) (m : List ℕ) where
             rw (read .reads, le-leb 1 workers some, le-leb workers 32 most, le-leb 32768 (length m) enough)
             (ap Reading.Accepted (sym (read .header)), m-is ∙ rw (read .records))
 
+-- what loading gives: a refusal, with the memory as it was, or the plan laid out
+pub data Loading (o : Outcome) (workers : ℕ) (m : List ℕ) : Type 0 where
+  turned-down : (why : Refusal) → loadAs o workers m ≡ (refused why, m) → Loading o workers m
+  laid : (p : Plan) → o ≡ accepted p → WorkersInRange workers → 32768 ≤ length m →
+      loadAs o workers m ≡ (accepted p, laidOut (p .records) m) → Loading o workers m
+
+pub loading : (o : Outcome) (workers : ℕ) (m : List ℕ) → Loading o workers m
+unfolding loadAs within
+loading (refused why) workers m = turned-down why refl
+loading (accepted p) workers m =
+    by-test (leb 1 workers)
+    (λ some. by-test (leb workers 32)
+    (λ most. by-test (leb 32768 (length m))
+    (λ enough. laid p refl (record { some = leb-true 1 workers some; most = leb-true workers 32 most }) (leb-true 32768 (length m) enough)
+    (rw (some, most, enough)))
+    (λ little. turned-down Refusal.Memory (rw (some, most, little))))
+    (λ many. turned-down Refusal.Workers (rw (some, many))))
+    (λ none. turned-down Refusal.Workers (rw none))
+
 -- a plan that is loaded was read
 pub loaded-read : (o : Outcome) (workers : ℕ) (m : List ℕ) (h : Header) → readingOf (loadAs o workers m .0) ≡ Reading.Accepted h → loadAs o workers m .0 ≡ o
-unfolding loadAs within
-loaded-read (refused why) workers m h e = refl
-loaded-read (accepted p) workers m h e = by-test (within 1 32 workers)
-    (λ w. rw w (by-test (leb 32768 (length m))
-    (λ enough. rw enough)
-    (λ little. let q = rw (w, little) at e in let z : _≡_ {A = ℕ} 0 1 = cc in absurd (omega arith))))
-    (λ w. let q = rw w at e in let z : _≡_ {A = ℕ} 0 1 = cc in absurd (omega arith))
+loaded-read o workers m h e = elim (loading o workers m) [
+  | turned-down why is ↦ let q = rw is at e in let z : _≡_ {A = ℕ} 0 1 = cc in absurd (omega arith)
+  | laid p o-is manned enough is ↦ ap (λ x. x .0) is ∙ sym o-is
+]
