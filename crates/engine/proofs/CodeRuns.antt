@@ -176,6 +176,7 @@ refused-opening file workers m o m′ why (o-is, m-is) e =
       kept = m-is ∙ kept;
       spoiled = λ mem l r mem′ called.
           let spoiled : answerOf (r .answer) ≡ Refused 14 =
-          ap (λ c. c .answer) called ∙ subst (λ x. choose memorySource (machineOf (x .state) mem) l .answer ≡ Refused 14) (sym all-zeros) (zeros-refused why mem l) in
+          ap (λ c. c .answer) called
+          ∙ subst (λ x. choose memorySource (machineOf (x .state) mem) l .answer ≡ Refused 14) (sym all-zeros) (zeros-refused why mem l) in
           let (same, same-memory) = refused-unchanged (o .state) mem l r mem′ 14 called spoiled in (spoiled, same, same-memory);
     }

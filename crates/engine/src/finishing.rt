@@ -1,7 +1,7 @@
 // A running line finishes.
 use crate::Chosen;
-use crate::limits::COUNTERS_OF_LINE;
 use crate::State;
+use crate::limits::COUNTERS_OF_LINE;
 use crate::refuse;
 use rules::Answer;
 use rules::Line;
@@ -96,11 +96,13 @@ fn both_falls(s: State, l: u16) -> Fallen
     let flag = s.serial[pipe as usize];
     let counters = s.counters;
     let line_after = next_of(s.lines, l);
-    let first = fall(counters, COUNTERS_OF_LINE * (line_after as usize) + pipe as usize, flag);
+    let beside = COUNTERS_OF_LINE * (line_after as usize) + pipe as usize;
+    let first = fall(counters, beside, flag);
     if first.ok {
         let fallen = first.counters;
         let pipe_after = next_of(s.pipes, pipe);
-        return fall(fallen, COUNTERS_OF_LINE * (l as usize) + pipe_after as usize, true);
+        let ahead = COUNTERS_OF_LINE * (l as usize) + pipe_after as usize;
+        return fall(fallen, ahead, true);
     }
     first
 }

@@ -8,7 +8,10 @@ ghost use Rattle.rules.specs.PipeKinds.{kindOf};
 ghost use Rattle.opening.specs.Plans.{serialOf};
 ghost use Rattle.engine.specs.Opened.{openedCounters, freshState};
 use crate::State;
-use crate::limits::{COUNTERS, COUNTERS_OF_LINE, FLAGS, SLOTS};
+use crate::limits::COUNTERS;
+use crate::limits::COUNTERS_OF_LINE;
+use crate::limits::FLAGS;
+use crate::limits::SLOTS;
 use rules::PipeKind;
 
 // Which pipes are serial, by their file bytes.

@@ -1,6 +1,12 @@
 // Whether every number of a run's state is within its range.
-use crate::limits::{COUNTERS, COUNTERS_OF_LINE, FLAGS, MOST_LINES, MOST_PIPES, MOST_TOKENS, SLOTS};
 use crate::State;
+use crate::limits::COUNTERS;
+use crate::limits::COUNTERS_OF_LINE;
+use crate::limits::FLAGS;
+use crate::limits::MOST_LINES;
+use crate::limits::MOST_PIPES;
+use crate::limits::MOST_TOKENS;
+use crate::limits::SLOTS;
 use opening::MOST_WORKERS;
 use rules::PipeKind;
 use rules::Slot;
@@ -142,7 +148,9 @@ fn counters_sound(counters: [u8; 512], serial: [bool; 16], pipes: usize, lines: 
 {
     let mut i: usize = 0;
     while i < COUNTERS {
-        let most = most_at(serial, pipes, lines, i / COUNTERS_OF_LINE, i % COUNTERS_OF_LINE);
+        let l = i / COUNTERS_OF_LINE;
+        let p = i % COUNTERS_OF_LINE;
+        let most = most_at(serial, pipes, lines, l, p);
         let counter = counters[i];
         if counter <= most {
             i += 1;

@@ -1,6 +1,7 @@
 // How many lines run, and whether any can move.
-use crate::limits::{COUNTERS_OF_LINE, SLOTS};
 use crate::State;
+use crate::limits::COUNTERS_OF_LINE;
+use crate::limits::SLOTS;
 use rules::Slot;
 ghost use mathlib.Core.Path.{_≡_};
 ghost use Prim.Native.Nat.{_≤_};

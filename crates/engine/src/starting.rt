@@ -122,7 +122,8 @@ fn overfull(s: State, mem: &[u16]) -> bool
 // A start at pipe 0: a token is taken, or there is none.
 fn start_first(s: State, mem: &mut [u16], line: Line) -> Chosen
     requires { ⌜ Ready s (line .0) ⌝ }
-    ensures { λ r. ⌜ chosenOf r (now (mem .exit)) ≡ startFirst memorySource (machineOf s (now (mem .entry))) (line .0) (safeTake (s .tables, now (mem .entry))) ⌝ }
+    ensures { λ r. ⌜ chosenOf r (now (mem .exit)) ≡
+        startFirst memorySource (machineOf s (now (mem .entry))) (line .0) (safeTake (s .tables, now (mem .entry))) ⌝ }
 {
     if overfull(s, mem) {
         return refuse(s, Refusal::Spoiled);

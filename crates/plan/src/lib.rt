@@ -10,8 +10,8 @@ mod trailer;
 mod verdict;
 
 use rules::Refusal;
-pub use trailer::field_or_zero;
 pub use trailer::Header;
+pub use trailer::field_or_zero;
 pub use verdict::Check;
 
 // What reading a file finds.

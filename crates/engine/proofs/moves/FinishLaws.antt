@@ -46,7 +46,8 @@ module _ (s : State) (l : ℕ) where
     unfolding firstOf
     first-is = f-is ∙ ap (λ b. fallenOf (s .counters) (16 * b + slotAt s l .pipe .0) (getD (s .serial) (slotAt s l .pipe .0) false)) a-is
 
-    pub both-fell : {g : Fallen} {b : ℕ} → f .ok ≡ true → b ≡ next (s .pipes) (slotAt s l .pipe .0) → g ≡ fallenOf (f .counters) (16 * l + b) true → g ≡ bothOf s l
+    pub both-fell : {g : Fallen} {b : ℕ} → f .ok ≡ true → b ≡ next (s .pipes) (slotAt s l .pipe .0) →
+        g ≡ fallenOf (f .counters) (16 * l + b) true → g ≡ bothOf s l
     unfolding bothOf
     both-fell {g} {b} ok b-is g-is =
         rw (← first-is) (if-holds (f .ok) (fallenOf (f .counters) (16 * l + next (s .pipes) (slotAt s l .pipe .0)) true) f g ok

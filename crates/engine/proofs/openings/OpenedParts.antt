@@ -43,9 +43,11 @@ module _ (serial : List Bool) (pipes lines : ℕ) where
         Filled whole (set c (16 * line + pipe) v) (16 * line + (pipe + 1))
     counters-store line pipe h k f e =
         let n-is : 16 * line + pipe + 1 ≡ 16 * line + (pipe + 1) = omega arith in
-        rw n-is at (filled-store f (omega (arith, f .size, length-tabled frame value)) (e ∙ sym (tabled-used frame value line pipe (omega arith) (omega arith) h k)))
+        rw n-is at (filled-store f (omega (arith, f .size, length-tabled frame value))
+        (e ∙ sym (tabled-used frame value line pipe (omega arith) (omega arith) h k)))
 
-    pub counters-line : {c : List ℕ} (line pipe : ℕ) → line < lines → pipe ≤ pipes → pipes ≤ pipe → Filled whole c (16 * line + pipe) → Filled whole c (16 * (line + 1))
+    pub counters-line : {c : List ℕ} (line pipe : ℕ) → line < lines → pipe ≤ pipes → pipes ≤ pipe →
+        Filled whole c (16 * line + pipe) → Filled whole c (16 * (line + 1))
     counters-line line pipe h a b f = filled-skip f (16 * (line + 1)) (omega arith) (λ j low high. unused j (omega arith) (λ p q. omega arith))
 
     pub counters-all : {c : List ℕ} (line : ℕ) → lines ≤ line → Filled whole c (16 * line) → c ≡ whole
@@ -73,12 +75,17 @@ module _ (bytes : List ℕ) (few : length bytes ≤ 16) where
   kinds-next : (p : ℕ) → p < length bytes → first-kinds (p + 1) ≡ first-kinds p ++ (eqb (getD bytes p 0) 83 ∷ [])
   unfolding first-kinds
   kinds-next p h = rw (add-one p, take-suc bytes p 0 h, ← serial-byte (getD bytes p 0))
-      (ap (map serialKind) (map-append kindOf (take p bytes) (getD bytes p 0 ∷ [])) ∙ map-append serialKind (map kindOf (take p bytes)) (kindOf (getD bytes p 0) ∷ []))
+      (ap (map serialKind) (map-append kindOf (take p bytes) (getD bytes p 0 ∷ []))
+      ∙ map-append serialKind (map kindOf (take p bytes)) (kindOf (getD bytes p 0) ∷ []))
 
   pub serials-store : {s : List Bool} (p : ℕ) → p < length bytes → s ≡ serialsTo bytes p → set s p (eqb (getD bytes p 0) 83) ≡ serialsTo bytes (p + 1)
   unfolding first-kinds
   serials-store p h e =
-      rw (e, falses-next p (omega arith), set-at (first-kinds p) false (replicate (16 - (p + 1)) false) (eqb (getD bytes p 0) 83) p (length-kinds p (omega arith)))
+      rw (
+        e,
+        falses-next p (omega arith),
+        set-at (first-kinds p) false (replicate (16 - (p + 1)) false) (eqb (getD bytes p 0) 83) p (length-kinds p (omega arith)),
+      )
       (sym (ap (λ (l : List Bool). l ++ replicate (16 - (p + 1)) false) (kinds-next p h) ∙ append-assoc (first-kinds p) (eqb (getD bytes p 0) 83 ∷ []) _))
 
   pub serials-all : {s : List Bool} (p : ℕ) → p ≤ length bytes → length bytes ≤ p → s ≡ serialsTo bytes p → s ≡ serialOf (map kindOf bytes)

@@ -66,9 +66,11 @@ module _ (file : List ℕ) (bytes : Bytes file) (workers : ℕ) (m : List ℕ) w
       }
 
   -- an opening is accepted exactly if the file is that of a valid plan, W is 1 to 32, and enough numbers are lent
-  pub opens-exactly : (openOf file workers m .0 .answer ≡ Opening.Accepted) ↔ ((p : Plan) × Valid p × (file ≡ encode p) × WorkersInRange workers × (32768 ≤ length m))
+  pub opens-exactly : (openOf file workers m .0 .answer ≡ Opening.Accepted) ↔
+      ((p : Plan) × Valid p × (file ≡ encode p) × WorkersInRange workers × (32768 ≤ length m))
   unfolding openedWith
   opens-exactly = (
     λ e. let r = opened-run e in (r .plan, r .valid, r .file-is, r .manned, r .enough),
-    λ (p, valid, file-is, manned, enough). ap (λ (x : Opened × List ℕ). x .0 .answer) (gives file workers m p (read-exactly file bytes p .1 (valid, file-is)) manned enough),
+    λ (p, valid, file-is, manned, enough). ap (λ (x : Opened × List ℕ). x .0 .answer)
+        (gives file workers m p (read-exactly file bytes p .1 (valid, file-is)) manned enough),
   )

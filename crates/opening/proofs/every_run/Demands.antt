@@ -64,7 +64,8 @@ module _ (p : Plan) (valid : Valid p) (m : List ℕ) where
   pair-begun = resting rules.opened (begun p m) at-opening
 
   -- they write down the plain sheet, and close where the sheet closes
-  pair-writes : (y : State) × (q : Match (p .tokens) (numbers p) (closed (p .tokens) (numbers p)) y nobody) × Writes pair pair-begun (order p) (resting (closed (p .tokens) (numbers p)) y q)
+  pair-writes : (y : State) × (q : Match (p .tokens) (numbers p) (closed (p .tokens) (numbers p)) y nobody) ×
+      Writes pair pair-begun (order p) (resting (closed (p .tokens) (numbers p)) y q)
   pair-writes = joint-writes (p .tokens) (numbers p) (others valid) (sheet-writes (p .tokens) (numbers p) (others valid)) (begun p m) at-opening
 
   last : State
@@ -105,7 +106,8 @@ module _ (p : Plan) (valid : Valid p) (m : List ℕ) where
         let (out, matches) = sides-match (j .source) in
         record { rest = refl; out = out; tables = matches }
 
-    same-machine : Alike (p .tokens) (numbers p) (follow (plainSource (p .tokens) (numbers p)) (opened (pipelineOf p) workers rules.opened) ls) (left p m workers ls)
+    same-machine : Alike (p .tokens) (numbers p)
+        (follow (plainSource (p .tokens) (numbers p)) (opened (pipelineOf p) workers rules.opened) ls) (left p m workers ls)
     unfolding opened memorySide ruleSide
     same-machine = rw (
       follow-map rule-side pair-opened ls pair-unspoiled,
@@ -161,7 +163,8 @@ module _ (p : Plan) (valid : Valid p) where
     unfolding opened memorySide
     kept-beyond =
         let r : List ℕ = drop 32768 m in
-        let more = follow-map (beyond-follows r (p .tokens) (numbers p) (others valid)) (pair-opened p valid [] workers manned ls) ls (pair-unspoiled p valid [] workers manned ls) in
+        let more = follow-map (beyond-follows r (p .tokens) (numbers p) (others valid)) (pair-opened p valid [] workers manned ls) ls
+        (pair-unspoiled p valid [] workers manned ls) in
         let plain = follow-map (memory-side p valid []) (pair-opened p valid [] workers manned ls) ls (pair-unspoiled p valid [] workers manned ls) in
         ap (λ (x : State). follow memorySource (opened (pipelineOf p) workers x) ls) (begun-beyond m) ∙ more ∙ ap (mapMachine (beyond r)) (sym plain)
 

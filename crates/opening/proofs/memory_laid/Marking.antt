@@ -37,7 +37,8 @@ field-drop : (s : List ℕ) (at k : ℕ) → fieldAt (drop at s) k ≡ fieldAt s
 field-drop s at k = rw (getD-drop at s k 0, getD-drop at s (k + 1) 0, ← add-assoc at k 1)
 
 -- as long as bytes are left a record is left
-some-left : (part : List ℕ) (at : ℕ) (rs : List Record) → recordsBytes rs ≡ drop at part → at < length part → (r : Record) × (later : List Record) × (rs ≡ r ∷ later)
+some-left : (part : List ℕ) (at : ℕ) (rs : List Record) → recordsBytes rs ≡ drop at part → at < length part →
+    (r : Record) × (later : List Record) × (rs ≡ r ∷ later)
 unfolding recordsBytes
 some-left part at [] e h = absurd (omega (arith, length-drop at part, ap length e))
 some-left part at (r ∷ later) e h = (r, later, refl)

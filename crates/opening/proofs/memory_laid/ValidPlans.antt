@@ -41,7 +41,9 @@ rest-clear : (kinds : List PipeKind) (p : ℕ) → length kinds ≤ p → getD (
 rest-clear kinds p h =
     let k : ℕ = p - length kinds in
     let p-is : length (map serialKind kinds) + k ≡ p = omega (arith, length-map kinds serialKind) in
-    rw (← p-is) (getD-append-add (map serialKind kinds) (replicate (16 - length (map serialKind kinds)) false) k false ∙ falses-at (16 - length (map serialKind kinds)) k)
+    rw (← p-is)
+    (getD-append-add (map serialKind kinds) (replicate (16 - length (map serialKind kinds)) false) k false
+    ∙ falses-at (16 - length (map serialKind kinds)) k)
 
 -- numbers that all differ from one do not have it
 has-not : (n : ℕ) (ns : List ℕ) → Every (λ m. m ≡ n → ⊥) ns → has ns n ≡ false
@@ -76,7 +78,13 @@ module _ {p : Plan} (valid : Valid p) where
 
   -- the records fit the part of the memory that is theirs
   pub fits : length (recordsFields (p .records)) ≤ 16384
-  fits = omega (arith, length-fields (p .records), valid .counts, valid .tokens, few-records (p .tokens) 0 (p .records) (valid .records) (valid .ascending) (omega arith))
+  fits = omega (
+    arith,
+    length-fields (p .records),
+    valid .counts,
+    valid .tokens,
+    few-records (p .tokens) 0 (p .records) (valid .records) (valid .ascending) (omega arith),
+  )
 
   module _ (m : List ℕ) where
     facts-are : take 24576 (laidOut (p .records) m) ≡ laidFacts (p .records)
