@@ -1,18 +1,8 @@
--- Tests and loops of tests;
-pub mod Lines
--- the ranges, and what they tell;
-pub mod RangeLaws
-pub mod SoundLaws
--- the parts of a move, and the choice;
-pub mod Kept
-pub mod Parts
-pub mod StartLaws
-pub mod FinishLaws
-pub mod ChooseLaws
--- what a refusal leaves;
-pub mod Unchanged
--- the state at opening, and the theorem of opening.
-pub mod Filling
-pub mod OpenedParts
-pub mod OpenCases
-pub mod Opens
+-- The proofs of the engine, by topic. Reading order: the ranges of a state;
+pub mod in_range
+-- a choice;
+pub mod moves
+-- an opening;
+pub mod openings
+-- and every session of the code is as the demands say.
+pub mod CodeRuns

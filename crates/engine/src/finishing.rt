@@ -1,14 +1,15 @@
 // A running line finishes.
-use rules::Answer;
 use crate::Chosen;
 use crate::State;
-use rules::Step;
+use crate::limits::COUNTERS_OF_LINE;
 use crate::refuse;
+use rules::Answer;
 use rules::Line;
 use rules::Pipe;
 use rules::Place;
 use rules::Refusal;
 use rules::Slot;
+use rules::Step;
 use rules::Token;
 use tables::Released;
 use tables::Tables;
@@ -95,11 +96,13 @@ fn both_falls(s: State, l: u16) -> Fallen
     let flag = s.serial[pipe as usize];
     let counters = s.counters;
     let line_after = next_of(s.lines, l);
-    let first = fall(counters, 16 * (line_after as usize) + pipe as usize, flag);
+    let beside = COUNTERS_OF_LINE * (line_after as usize) + pipe as usize;
+    let first = fall(counters, beside, flag);
     if first.ok {
         let fallen = first.counters;
         let pipe_after = next_of(s.pipes, pipe);
-        return fall(fallen, 16 * (l as usize) + pipe_after as usize, true);
+        let ahead = COUNTERS_OF_LINE * (l as usize) + pipe_after as usize;
+        return fall(fallen, ahead, true);
     }
     first
 }

@@ -2,14 +2,14 @@
 mod beginning;
 mod finishing;
 mod fresh_state;
+mod limits;
 mod ranges;
 mod running;
 mod starting;
 
-pub use beginning::open;
 pub use beginning::Opened;
 pub use beginning::Opening;
-
+pub use beginning::open;
 use rules::Answer;
 use rules::Line;
 use rules::Refusal;
@@ -76,11 +76,12 @@ fn move_line(s: State, mem: &mut [u16], line: Line) -> Chosen
     if slot.running {
         return finishing::finish(s, mem, line);
     }
-    let at = 16 * l + slot.pipe.0 as usize;
+    let at = limits::COUNTERS_OF_LINE * l + slot.pipe.0 as usize;
     if s.counters[at] != 0 {
         return refuse(s, Refusal::Early);
     }
-    if s.workers <= running::count_running(s) {
+    let slots = s.slots;
+    if s.workers <= running::count_running(slots, s.lines) {
         return refuse(s, Refusal::Crowded);
     }
     starting::start(s, mem, line)

@@ -1,5 +1,13 @@
 // Whether every number of a run's state is within its range.
 use crate::State;
+use crate::limits::COUNTERS;
+use crate::limits::COUNTERS_OF_LINE;
+use crate::limits::FLAGS;
+use crate::limits::MOST_LINES;
+use crate::limits::MOST_PIPES;
+use crate::limits::MOST_TOKENS;
+use crate::limits::SLOTS;
+use opening::MOST_WORKERS;
 use rules::PipeKind;
 use rules::Slot;
 ghost use mathlib.Core.Path.{_≡_};
@@ -8,22 +16,9 @@ ghost use mathlib.Core.List.{_∷_, []};
 ghost use Prim.Native.Nat.{_<_, _≤_};
 ghost use lib.Dec.{ltb};
 ghost use Rattle.rules.specs.Lists.{if, all, every};
-ghost use Rattle.rules.specs.RunState.{full};
 ghost use Rattle.rules.specs.Ranges.{isIdle, isLoaded, slotSound, mostAt, counterSound, serialSound, numbersSound, sound as soundOf};
 ghost use Rattle.tables.specs.Calls.{memorySource};
 ghost use Rattle.engine.specs.Machines.{machineOf};
-
-// A counter's full value.
-pub(crate) fn full_value(serial: bool) -> u8
-    ensures { λ r. ⌜ r ≡ full serial ⌝ }
-{
-    if serial {
-        let kind = PipeKind::Serial;
-        return kind.full();
-    }
-    let kind = PipeKind::Parallel;
-    kind.full()
-}
 
 // What is no pipe of the plan is not serial.
 fn flag_sound(serial: bool, p: usize, pipes: usize) -> bool
@@ -40,7 +35,7 @@ fn flags_sound(serial: [bool; 16], pipes: usize) -> bool
     ensures { λ r. ⌜ r ≡ every 16 (serialSound pipes serial) ⌝ }
 {
     let mut p: usize = 0;
-    while p < 16 {
+    while p < FLAGS {
         let flag = serial[p];
         if flag_sound(flag, p, pipes) {
             p += 1;
@@ -120,7 +115,7 @@ fn slots_sound(slots: [Slot; 32], pipes: u16, lines: usize, tokens: u16) -> bool
     ensures { λ r. ⌜ r ≡ every 32 (slotSound pipes lines tokens slots) ⌝ }
 {
     let mut l: usize = 0;
-    while l < 32 {
+    while l < SLOTS {
         let slot = slots[l];
         if slot_sound(slot, l, pipes, lines, tokens) {
             l += 1;
@@ -143,7 +138,8 @@ fn most_at(serial: [bool; 16], pipes: usize, lines: usize, l: usize, p: usize) -
         return 0;
     }
     let flag = serial[p];
-    full_value(flag)
+    let kind = PipeKind::from_flag(flag);
+    kind.full()
 }
 
 // All counters.
@@ -151,8 +147,10 @@ fn counters_sound(counters: [u8; 512], serial: [bool; 16], pipes: usize, lines: 
     ensures { λ r. ⌜ r ≡ every 512 (counterSound pipes lines serial counters) ⌝ }
 {
     let mut i: usize = 0;
-    while i < 512 {
-        let most = most_at(serial, pipes, lines, i / 16, i % 16);
+    while i < COUNTERS {
+        let l = i / COUNTERS_OF_LINE;
+        let p = i % COUNTERS_OF_LINE;
+        let most = most_at(serial, pipes, lines, l, p);
         let counter = counters[i];
         if counter <= most {
             i += 1;
@@ -170,22 +168,22 @@ fn numbers_sound(s: State) -> bool
     if s.pipes < 1 {
         return false;
     }
-    if 16 < s.pipes {
+    if MOST_PIPES < s.pipes {
         return false;
     }
     if s.lines < 1 {
         return false;
     }
-    if 32 < s.lines {
+    if MOST_LINES < s.lines {
         return false;
     }
-    if 4096 < s.tables.tokens {
+    if MOST_TOKENS < s.tables.tokens {
         return false;
     }
     if s.workers < 1 {
         return false;
     }
-    if 32 < s.workers {
+    if MOST_WORKERS < s.workers {
         return false;
     }
     if s.tables.tokens < s.placed {

@@ -1,15 +1,16 @@
 // A waiting line with counter 0 starts, or stops.
-use rules::Answer;
 use crate::Chosen;
 use crate::State;
-use rules::Step;
-use crate::ranges::full_value;
+use crate::limits::COUNTERS_OF_LINE;
 use crate::refuse;
+use rules::Answer;
 use rules::Line;
 use rules::Pipe;
+use rules::PipeKind;
 use rules::Place;
 use rules::Refusal;
 use rules::Slot;
+use rules::Step;
 use rules::Token;
 use tables::Offer;
 use tables::Tables;
@@ -21,7 +22,7 @@ ghost use Rattle.rules.specs.Sources.{Nothing, Took};
 ghost use Rattle.rules.specs.Choices.{filled, start as startedBy, startFirst, startLater};
 ghost use Rattle.tables.specs.Calls.{memorySource, safeTake};
 ghost use Rattle.engine.specs.Machines.{machineOf, chosenOf};
-ghost use Rattle.engine.specs.Moves.{Ready, slotAt, overfullOf};
+ghost use Rattle.engine.specs.Moves.{Ready, overfullOf};
 
 // The counters with that of a line and pipe full again.
 fn refill(s: State, l: usize, p: usize) -> [u8; 512]
@@ -29,19 +30,19 @@ fn refill(s: State, l: usize, p: usize) -> [u8; 512]
     ensures { λ r. ⌜ ((m : List ℕ) → r ≡ filled (machineOf s m) l p) ⌝ }
 {
     let flag = s.serial[p];
-    let at = 16 * l + p;
+    let at = COUNTERS_OF_LINE * l + p;
     let mut counters = s.counters;
-    counters[at] = full_value(flag);
+    let kind = PipeKind::from_flag(flag);
+    counters[at] = kind.full();
     counters
 }
 
-// A start at a later pipe.
-fn start_later(s: State, line: Line) -> Chosen
-    requires { ⌜ Ready s (line .0) ⌝ }
-    ensures { λ r. ⌜ ((m : List ℕ) → chosenOf r m ≡ startLater memorySource (machineOf s m) (line .0) (slotAt s (line .0))) ⌝ }
+// The line starts the pipe of this slot, with its token and place.
+fn start_at(s: State, line: Line, slot: Slot) -> Chosen
+    requires { ⌜ (line .0 < 32) × (slot .pipe .0 < 16) ⌝ }
+    ensures { λ r. ⌜ ((m : List ℕ) → chosenOf r m ≡ startLater memorySource (machineOf s m) (line .0) slot) ⌝ }
 {
     let l = line.0 as usize;
-    let slot = s.slots[l];
     let pipe = slot.pipe;
     let token = slot.token;
     let place = slot.place;
@@ -71,30 +72,18 @@ fn start_with(s: State, line: Line, token: u16, t: Tables) -> Chosen
     requires { ⌜ (t .tokens ≡ s .tables .tokens) × (s .placed < s .tables .tokens) ⌝ }
     ensures { λ r. ⌜ ((m m′ : List ℕ) → chosenOf r m′ ≡ startFirst memorySource (machineOf s m) (line .0) (Took token (t, m′))) ⌝ }
 {
-    let l = line.0 as usize;
-    let pipe = Pipe(0);
     let token = Token(token);
     let place = Place(s.placed);
-    let counters = refill(s, l, 0);
-    let mut next = s;
-    next.counters = counters;
-    next.slots[l] = Slot {
-        pipe,
-        running: true,
+    let slot = Slot {
+        pipe: Pipe(0),
+        running: false,
         token,
         place,
     };
+    let mut next = s;
     next.placed = s.placed + 1;
     next.tables = t;
-    Chosen {
-        answer: Answer::Started(Step {
-            line,
-            pipe,
-            token,
-            place,
-        }),
-        state: next,
-    }
+    start_at(next, line, slot)
 }
 
 // A stop: no token is left.
@@ -133,7 +122,8 @@ fn overfull(s: State, mem: &[u16]) -> bool
 // A start at pipe 0: a token is taken, or there is none.
 fn start_first(s: State, mem: &mut [u16], line: Line) -> Chosen
     requires { ⌜ Ready s (line .0) ⌝ }
-    ensures { λ r. ⌜ chosenOf r (now (mem .exit)) ≡ startFirst memorySource (machineOf s (now (mem .entry))) (line .0) (safeTake (s .tables, now (mem .entry))) ⌝ }
+    ensures { λ r. ⌜ chosenOf r (now (mem .exit)) ≡
+        startFirst memorySource (machineOf s (now (mem .entry))) (line .0) (safeTake (s .tables, now (mem .entry))) ⌝ }
 {
     if overfull(s, mem) {
         return refuse(s, Refusal::Spoiled);
@@ -156,5 +146,5 @@ pub(crate) fn start(s: State, mem: &mut [u16], line: Line) -> Chosen
     if slot.pipe.0 == 0 {
         return start_first(s, mem, line);
     }
-    start_later(s, line)
+    start_at(s, line, slot)
 }

@@ -75,7 +75,8 @@ pub record Run (p : Plan) (m : List ℕ) (workers : ℕ) (ls : List ℕ) (last :
       (has (deferredAtEnd p m workers ls) n ≡ true) ↔ Blocked (p .tokens) (numbers p) n
   -- demand 2: the answers are those of the rules, and so is the machine, but for the tables, which match
   pub answers-as-rules : told p m workers ls ≡ answers (plainSource (p .tokens) (numbers p)) (opened (pipelineOf p) workers rules.opened) ls
-  pub left-as-rules : Alike (p .tokens) (numbers p) (follow (plainSource (p .tokens) (numbers p)) (opened (pipelineOf p) workers rules.opened) ls) (left p m workers ls)
+  pub left-as-rules : Alike (p .tokens) (numbers p)
+      (follow (plainSource (p .tokens) (numbers p)) (opened (pipelineOf p) workers rules.opened) ls) (left p m workers ls)
   -- the memory keeps its length, what is beyond the first 32,768 numbers is left as it was, and what was in these before plays no part
   pub lent : length (left p m workers ls .source .1) ≡ 32768 + (length m - 32768)
   pub beyond-kept : left p m workers ls ≡ mapMachine (beyond (drop 32768 m)) (left p [] workers ls)
@@ -93,7 +94,8 @@ pub record Demands (p : Plan) : Type 0 where
   pub last : List ℕ → State
   pub runs : (m : List ℕ) (workers : ℕ) → WorkersInRange workers → (ls : List ℕ) → Run p m workers ls (last m)
   -- two runs that have ended, with whatever memory, workers and choices, have left the same end state
-  pub same-end : (m k : List ℕ) (w v : ℕ) → WorkersInRange w → WorkersInRange v → (ls ks : List ℕ) → ended (left p m w ls) ≡ true → ended (left p k v ks) ≡ true →
+  pub same-end : (m k : List ℕ) (w v : ℕ) → WorkersInRange w → WorkersInRange v → (ls ks : List ℕ) →
+      ended (left p m w ls) ≡ true → ended (left p k v ks) ≡ true →
       endState (left p m w ls) ≡ endState (left p k v ks)
   -- the one-worker run: all its choices are accepted, the last stops, and it has ended
   pub one-worker : (m : List ℕ) → Every Accepted (told p m 1 (oneWorkerChoices p))

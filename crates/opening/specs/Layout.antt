@@ -4,9 +4,8 @@ use mathlib.Core.List.{List, [], _∷_, _++_, map}
 use Prim.Native.Nat.{ℕ, suc, _+_, _≤_}
 use lib.Dec.{eqb}
 use lib.ListN.{length, drop, set, replicate}
-use Rattle.rules.specs.Lists.{if, table}
+use Rattle.rules.specs.Lists.{if, table, Every}
 use Rattle.plan.specs.Plan.{Record, ValidRecord, AscendingFrom, recordsBytes}
-use Rattle.rules.specs.Lists.{Every}
 use Rattle.opening.specs.Plans.{filledUp}
 
 -- a record's numbers as they stand in memory: token, count, numbers
@@ -31,7 +30,8 @@ zeros n = replicate n 0
 unfoldable pub laidFacts : List Record → List ℕ
 laidFacts rs = filledUp 16384 0 (recordsFields rs) ++ (table 4096 (placeOf 0 rs) ++ zeros 4096)
 
--- the whole memory: the facts, empty tables, and untouched what is beyond
+-- "Opening copies the lists into 32,768 lent 16-bit numbers and clears the unused ones; anything beyond is untouched":
+-- the facts, empty tables, and what is beyond
 unfoldable pub laidOut : List Record → List ℕ → List ℕ
 laidOut rs m = laidFacts rs ++ (zeros 8192 ++ drop 32768 m)
 

@@ -1,12 +1,26 @@
 -- Fields and their bytes: each is made of the other again.
-use mathlib.Core.Path.{_≡_, refl}
+use mathlib.Core.Path.{_≡_, refl, _∙_}
 use mathlib.Core.List.{List, [], _∷_}
-use Prim.Native.Nat.{ℕ, zero, suc, _+_, _-_, _*_, _/_, _%_, _<_}
+use Prim.Native.Nat.{ℕ, zero, suc, _+_, _-_, _*_, _/_, _%_, _≤_, _<_}
 use native.Mathlib.Omega.{arith}
+use borrow.Author.Tests.{le-leb, lt-leb}
 use lib.ListN.{length, take, drop}
 use lib.Seq.{getD-drop}
-use Rattle.plan.specs.Bytes.{fields, fieldBytes, Bytes}
+use Rattle.plan.specs.Bytes.{fieldAt, fieldIn, fields, fieldBytes, Bytes}
 use Rattle.rules.specs.Lists.{Every}
+
+-- a field is in a list, or is not
+pub field-inside : (s : List ℕ) (i : ℕ) {r : ℕ} → i + 2 ≤ length s → r ≡ fieldIn s i → r ≡ fieldAt s i
+unfolding fieldIn
+field-inside s i h e = e ∙ rw (le-leb (i + 2) (length s) h)
+
+pub field-is : (s : List ℕ) (i : ℕ) {r : ℕ} → i + 2 ≤ length s → r ≡ fieldAt s i → r ≡ fieldIn s i
+unfolding fieldIn
+field-is s i h e = rw (le-leb (i + 2) (length s) h) e
+
+pub no-field : (s : List ℕ) (i : ℕ) → length s < i + 2 → 0 ≡ fieldIn s i
+unfolding fieldIn
+no-field s i h = rw (lt-leb (i + 2) (length s) h)
 
 -- a field's bytes, put together
 pub joined : (n : ℕ) → n % 256 + n / 256 * 256 ≡ n

@@ -11,6 +11,7 @@ mod verdict;
 
 use rules::Refusal;
 pub use trailer::Header;
+pub use trailer::field_or_zero;
 pub use verdict::Check;
 
 // What reading a file finds.

@@ -2,7 +2,7 @@
 use mathlib.Core.Path.{refl}
 use borrow.Author.Needs.{needs}
 use Rattle.engine.specs.Moves.{endedOf}
-use Rattle.engine.proofs.SoundLaws.{both-rules}
+use Rattle.engine.proofs.in_range.SoundLaws.{both-rules}
 use Rattle.rules.proofs.lists.Tests.{if-holds, if-fails}
 use Rattle.engine.proofs.ended.Statement.{statement}
 use Rattle.engine.proofs.ended.Tie as tie

@@ -1,5 +1,7 @@
 -- `fresh_state::counter` meets its contract, case by case.
+use mathlib.Core.Path.{ap, _∙_}
 use borrow.Author.Tests.{eq-eqb, ne-eqb}
+use Rattle.rules.specs.PipeKinds.{fullOf}
 use Rattle.rules.specs.Choices.{openedCounter}
 use borrow.Author.Needs.{needs}
 use Rattle.engine.proofs.fresh_state.counter.Statement.{statement}
@@ -17,12 +19,17 @@ returns-3 : tie.Need-returns-3
 unfolding openedCounter
 returns-3 c = rw (ne-eqb _ 0 (c .before .if1 .left), eq-eqb _ 0 (c .if3 .taken))
 
-full-value-requires : tie.Need-full-value-requires
-full-value-requires c κs = search needs
+from-flag-requires : tie.Need-from-flag-requires
+from-flag-requires c κs = search needs
+
+full-requires : tie.Need-full-requires
+full-requires c κs = search needs
 
 returns-4 : tie.Need-returns-4
 unfolding openedCounter
-returns-4 c = rw (ne-eqb _ 0 (c .before .before .if1 .left), ne-eqb _ 0 (c .before .if3 .left)) (c .full-value .ensures)
+returns-4 c =
+    rw (ne-eqb _ 0 (c .before .before .before .if1 .left), ne-eqb _ 0 (c .before .before .if3 .left))
+    (c .full .ensures ∙ ap fullOf (c .before .from-flag .ensures))
 
 pub counter-spec : {M : Type 1} → statement M
-counter-spec = tie.close (tie.spec returns returns-2 returns-3 full-value-requires returns-4)
+counter-spec = tie.close (tie.spec returns returns-2 returns-3 from-flag-requires full-requires returns-4)

@@ -1,6 +1,5 @@
 -- `engine::ranges::is_loaded` meets its contract.
 use mathlib.Core.Path.{sym, _∙_}
-use Prim.Native.Nat.{_-_}
 use borrow.Author.Tests.{not-true, not-false}
 use borrow.Author.Needs.{needs}
 use Rattle.rules.specs.Ranges.{isLoaded}

@@ -3,7 +3,7 @@ use borrow.Author.Needs.{needs}
 use Rattle.rules.specs.Ranges.{numbersSound}
 use Rattle.rules.specs.Lists.{within}
 use Rattle.engine.specs.Machines.{machineOf}
-use Rattle.engine.proofs.RangeLaws.{numbers-last}
+use Rattle.engine.proofs.in_range.RangeLaws.{numbers-last}
 use Rattle.rules.proofs.lists.Tests.{tests}
 use Rattle.engine.proofs.ranges.numbers_sound.Statement.{statement}
 use Rattle.engine.proofs.ranges.numbers_sound.Tie as tie

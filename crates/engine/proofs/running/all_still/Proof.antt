@@ -1,11 +1,12 @@
 -- `engine::running::all_still` meets its contract. The invariant: no line below l can move.
 use mathlib.Core.Bool.{true}
-use mathlib.Core.Path.{_≡_, sym, _∙_}
+use mathlib.Core.Path.{_≡_, sym}
 use Prim.Native.Nat.{_-_, _≤_}
 use native.Mathlib.Omega.{arith}
 use borrow.Author.Needs.{needs}
 use Rattle.rules.specs.Lists.{every}
 use Rattle.engine.specs.Moves.{isStill}
+use Rattle.rules.proofs.lists.Tests.{tests}
 use Rattle.rules.proofs.lists.EveryBelow.{every-none, every-more, every-done, every-fails}
 use Rattle.engine.proofs.running.all_still.Statement.{statement}
 use Rattle.engine.proofs.running.all_still.Tie as tie
@@ -22,8 +23,39 @@ cast-lines c = search needs
 loop-holds : tie.Need-loop-holds Inv-loop μ-loop
 loop-holds c = (omega arith, every-none _)
 
-is-still-requires : tie.Need-is-still-requires Inv-loop μ-loop
-is-still-requires c κs = search needs
+returns : tie.Need-returns Inv-loop μ-loop
+unfolding isStill
+returns c = every-fails _ _ (c .before .before .loop .l) (omega arith) (sym (search tests depth 12))
+
+mul-slot : tie.Need-mul-slot Inv-loop μ-loop
+mul-slot c = search needs
+
+element-copy-out-slot : tie.Need-element-copy-out-slot Inv-loop μ-loop
+element-copy-out-slot c = search needs
+
+cast-pipe : tie.Need-cast-pipe Inv-loop μ-loop
+cast-pipe c = search needs
+
+returns-2 : tie.Need-returns-2 Inv-loop μ-loop
+unfolding isStill
+returns-2 c = every-fails _ _ (c .before .before .before .before .before .loop .l) (omega arith) (sym (search tests depth 12))
+
+returns-3 : tie.Need-returns-3 Inv-loop μ-loop
+unfolding isStill
+returns-3 c = every-fails _ _ (c .before .before .before .before .before .before .loop .l) (omega arith) (sym (search tests depth 12))
+
+mul-counter : tie.Need-mul-counter Inv-loop μ-loop
+mul-counter c = search needs
+
+add-counter : tie.Need-add-counter Inv-loop μ-loop
+add-counter c = search needs
+
+element-copy-out-counter : tie.Need-element-copy-out-counter Inv-loop μ-loop
+element-copy-out-counter c = search needs
+
+returns-4 : tie.Need-returns-4 Inv-loop μ-loop
+unfolding isStill
+returns-4 c = every-fails _ _ (c .before .before .before .before .before .before .before .before .loop .l) (omega arith) (sym (search tests depth 12))
 
 add-l : tie.Need-add-l Inv-loop μ-loop
 add-l c = omega arith
@@ -32,13 +64,13 @@ loop-less : tie.Need-loop-less Inv-loop μ-loop
 loop-less c = omega arith
 
 loop-again : tie.Need-loop-again Inv-loop μ-loop
-loop-again c = (omega arith, every-more _ _ (c .before .before .before .loop .inv .1) (sym (c .before .is-still .ensures) ∙ c .if1 .taken))
+unfolding isStill
+loop-again c =
+    let at-loop = c .before .before .before .before .before .before .before .before in
+    (omega arith, every-more _ _ (at-loop .loop .inv .1) (sym (search tests depth 12)))
 
-returns : tie.Need-returns Inv-loop μ-loop
-returns c = every-fails _ _ (c .before .before .before .loop .l) (omega arith) (sym (c .before .is-still .ensures) ∙ c .if1 .left)
-
-returns-2 : tie.Need-returns-2 Inv-loop μ-loop
-returns-2 c = every-done _ _ (c .before .loop .l) (omega arith) (omega arith) (c .before .loop .inv .1)
+returns-5 : tie.Need-returns-5 Inv-loop μ-loop
+returns-5 c = every-done _ _ (c .before .loop .l) (omega arith) (omega arith) (c .before .loop .inv .1)
 
 pub all-still-spec : {M : Type 1} → statement M
 all-still-spec =
@@ -48,9 +80,17 @@ all-still-spec =
     μ-loop
     cast-lines
     loop-holds
-    is-still-requires
+    returns
+    mul-slot
+    element-copy-out-slot
+    cast-pipe
+    returns-2
+    returns-3
+    mul-counter
+    add-counter
+    element-copy-out-counter
+    returns-4
     add-l
     loop-less
     loop-again
-    returns
-    returns-2)
+    returns-5)

@@ -2,20 +2,16 @@
 use mathlib.Core.Path.{_≡_}
 use Prim.Native.Nat.{_-_, _≤_}
 use native.Mathlib.Omega.{arith}
-use borrow.Author.Needs.{needs}
 use Rattle.rules.specs.Choices.{runningBelow}
-use Rattle.engine.proofs.Lines as laws
+use Rattle.engine.proofs.moves.Lines as laws
 use Rattle.engine.proofs.running.count_running.Statement.{statement}
 use Rattle.engine.proofs.running.count_running.Tie as tie
 
 abbrev Inv-loop : tie.InvT-loop
-Inv-loop lines slots n₀ l₀ n l = (l ≤ lines) × (lines ≤ 32) × (n ≤ l) × (n ≡ runningBelow slots l)
+Inv-loop given slots lines n₀ l₀ n l = (l ≤ lines) × (lines ≤ 32) × (n ≤ l) × (n ≡ runningBelow slots l)
 
 abbrev μ-loop : tie.MeasureT-loop
-μ-loop lines slots n₀ l₀ n l = lines - l
-
-cast-lines : tie.Need-cast-lines Inv-loop μ-loop
-cast-lines c = search needs
+μ-loop given slots lines n₀ l₀ n l = lines - l
 
 loop-holds : tie.Need-loop-holds Inv-loop μ-loop
 loop-holds c = (omega arith, omega arith, omega arith, laws.running-none _)
@@ -48,7 +44,7 @@ loop-again-2 : tie.Need-loop-again-2 Inv-loop μ-loop
 loop-again-2 c = (omega arith, omega arith, omega arith, laws.running-no _ _ _ (c .before .before .before .loop .inv .3) (c .if1 .left))
 
 returns : tie.Need-returns Inv-loop μ-loop
-returns c = let l-is : c .before .loop .l ≡ c .before .before .before .before .args .s .lines = omega arith in rw l-is at (c .before .loop .inv .3)
+returns c = let l-is : c .before .loop .l ≡ c .before .before .args .lines = omega arith in rw l-is at (c .before .loop .inv .3)
 
 pub count-running-spec : {M : Type 1} → statement M
 count-running-spec =
@@ -56,7 +52,6 @@ count-running-spec =
     (tie.spec
     Inv-loop
     μ-loop
-    cast-lines
     loop-holds
     mul-slot
     array-copy-out-slot

@@ -1,0 +1,15 @@
+-- A choice, proved part by part. Reading order:
+-- how many lines run;
+pub mod Lines
+-- what the tables' answers tell, and that N stays as it is;
+pub mod Kept
+-- the machine of a state with some new parts, and a refusal;
+pub mod Parts
+-- a start;
+pub mod StartLaws
+-- a finish;
+pub mod FinishLaws
+-- the choice;
+pub mod ChooseLaws
+-- a refused choice leaves state and memory as they were.
+pub mod Unchanged

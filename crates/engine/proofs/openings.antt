@@ -1,0 +1,9 @@
+-- An opening, proved part by part. Reading order:
+-- a walk that fills a list of zeros;
+pub mod Filling
+-- the counters and the kinds of the pipes at opening;
+pub mod OpenedParts
+-- the opening, case by case;
+pub mod OpenCases
+-- when it is accepted, and what it leaves then.
+pub mod Opens
