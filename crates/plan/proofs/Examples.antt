@@ -35,7 +35,8 @@ plan-b = record {
 }
 
 case-b : readOf (encode plan-b) ≡ accepted plan-b
-unfolding readOf checkOf headerCheck partsCheck pipesCheck kindsCheck recordsFrom recordCheck numbersFrom planWith recordsOf fields fieldBytes recordsBytes encode plan-b
+unfolding readOf checkOf headerCheck partsCheck pipesCheck kindsCheck recordsFrom recordCheck numbersFrom planWith recordsOf fields
+    fieldBytes recordsBytes encode plan-b
 case-b = refl
 
 -- a file with these record fields, pipe bytes and trailer fields

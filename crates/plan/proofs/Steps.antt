@@ -81,7 +81,9 @@ module _ (s : List ℕ) (i : ℕ) where
   module _ (token floor : ℕ) where
     -- the number at i, and those after it
     pub numbers-turn : i + 1 < length s → numbersFrom token floor (fields (drop i s))
-        ≡ must (leb floor (fieldAt s i)) (Failed RecordLayout) (must (not (eqb (fieldAt s i) token)) (Failed ListsItself) (numbersFrom token (fieldAt s i + 1) (fields (drop (i + 2) s))))
+        ≡ must (leb floor (fieldAt s i)) (Failed RecordLayout)
+        (must (not (eqb (fieldAt s i) token)) (Failed ListsItself)
+        (numbersFrom token (fieldAt s i + 1) (fields (drop (i + 2) s))))
     unfolding numbersFrom
     numbers-turn h = rw (fields-turn h, add-one (fieldAt s i))
 

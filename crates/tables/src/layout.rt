@@ -8,8 +8,8 @@
 //
 // The first three parts are the facts of the tokens. A pass that reads is handed them as a part of the memory.
 
-// Where the parts begin, after the records.
-pub(crate) const POSITIONS: usize = 16384;
+// Where the parts begin, after the records. Opening writes the positions too.
+pub const POSITIONS: usize = 16384;
 
 pub(crate) const STANDINGS: usize = 20480;
 

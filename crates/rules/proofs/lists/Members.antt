@@ -105,7 +105,8 @@ keep-same p q [] h = refl
 keep-same p q (a ∷ l) h = rw (h a (rw (eq-eqb a a refl)), keep-same p q l (λ n e. h n (rw e (if-same (eqb a n) true))))
 
 -- where one test holds of some element and a second of none, a third does that holds wherever the first holds without the second
-pub any-third : {A : Type 0} (p q r : A → Bool) → ((a : A) → p a ≡ true → q a ≡ false → r a ≡ true) → (l : List A) → any p l ≡ true → any q l ≡ false → any r l ≡ true
+pub any-third : {A : Type 0} (p q r : A → Bool) → ((a : A) → p a ≡ true → q a ≡ false → r a ≡ true) →
+    (l : List A) → any p l ≡ true → any q l ≡ false → any r l ≡ true
 unfolding any
 any-third p q r h [] e f = absurd (true≢false (sym e))
 any-third p q r h (a ∷ l) e f = go (p a) (q a) (r a) (h a) (any-third p q r h l) e f

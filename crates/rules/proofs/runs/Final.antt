@@ -14,7 +14,8 @@ use Rattle.rules.specs.Choices.{tabled}
 use Rattle.rules.specs.WholeRuns.{endedCounter, final}
 use Rattle.rules.proofs.lists.Tests.{same, other, sameAs, lower, upper, below, holds, fails, see, never}
 use Rattle.rules.proofs.lists.Rotation.{only}
-use Rattle.rules.proofs.standing.Standing.{Standing, serialAt, waiting, turn, toStart, toFinish, finishes-next, start-finish, turn-yes, turn-no, turn-parallel}
+use Rattle.rules.proofs.standing.Standing.{Standing, serialAt, waiting, turn, toStart, toFinish, finishes-next, start-finish}
+use Rattle.rules.proofs.standing.Standing.{turn-yes, turn-no, turn-parallel}
 use Rattle.rules.proofs.standing.Begin.{waiting-here, waiting-else, waiting-busy}
 use Rattle.rules.proofs.invariant.Counters.{length-tabled, tabled-used, tabled-unused}
 use Rattle.rules.proofs.invariant.Invariant.{Allowed, State, whole, Inv, first-held}

@@ -29,7 +29,8 @@ use Rattle.rules.proofs.runs.Marks.{mark, mark-done, mark-due, mark-one
 use Rattle.rules.proofs.runs.OneWorker.{one-worker, length-one-worker}
 use Rattle.rules.proofs.choices.Answers.{started-accepted, all-counted, length-answers, split}
 
-module _ {X : Type 0} {S : Source X} {plan : Pipeline} (ranged : PipelineInRange plan) {workers : ℕ} (manned : WorkersInRange workers) {x : X} {order : List ℕ} {z : X}
+module _ {X : Type 0} {S : Source X} {plan : Pipeline} (ranged : PipelineInRange plan)
+    {workers : ℕ} (manned : WorkersInRange workers) {x : X} {order : List ℕ} {z : X}
     (sheet : Sheet S plan x order z) where
   allowed : Allowed plan workers order
   allowed = record { ranged = ranged; manned = manned; fits = sheet .fits; known = sheet .known }

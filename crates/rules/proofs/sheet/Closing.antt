@@ -57,7 +57,9 @@ module _ (tokens : ℕ) (numbers : ℕ → List ℕ) where
       }))
       (λ n u e.
       let h : Taking tokens numbers done (took n u) = rw e at (take-sound tokens numbers others t s) in
-      let c = closes-from others steps (done ++ (n ∷ [])) (release n u) (release-sound tokens numbers n u (h .0)) (omega (arith, length-append done (n ∷ []))) in
+      let c =
+      closes-from others steps (done ++ (n ∷ [])) (release n u) (release-sound tokens numbers n u (h .0))
+      (omega (arith, length-append done (n ∷ []))) in
       rw (e, written, leaves) (record {
         writes = write refl (ap offered e) refl refl (c .writes);
         ordered = (h .1, c .ordered);

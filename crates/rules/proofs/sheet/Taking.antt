@@ -10,7 +10,8 @@ use borrow.Author.Tests.{eqb-true, eqb-false, leb-true, leb-false, not-true}
 use Rattle.rules.specs.Lists.{Every, if, keep, has, empty, times}
 use Rattle.rules.specs.TakingTokens.{Held, Tables, Taken, none, took, tokensOf, isDue, raised, hold, takeNew, takeFrom, take, lose, release}
 use Rattle.rules.proofs.lists.Tests.{by-test, if-not, if-same}
-use Rattle.rules.proofs.lists.Counting.{members, same-number, times-append, times-split, has-head, has-left, has-right, has-none, has-some, has-same, has-keep}
+use Rattle.rules.proofs.lists.Counting.{members, same-number, times-append, times-split}
+use Rattle.rules.proofs.lists.Counting.{has-head, has-left, has-right, has-none, has-some, has-same, has-keep}
 use Rattle.rules.proofs.lists.EveryLaws.{every-map, every-weaken, every-append, every-keep, every-find}
 
 module _ (numbers : ℕ → List ℕ) where
@@ -160,7 +161,8 @@ module _ (tokens : ℕ) (numbers : ℕ → List ℕ) where
     unfolding take takeFrom times
     take-sound {done} t s = go (t .ready) refl
       where
-        first : (n : ℕ) (rest : List ℕ) → t .ready ≡ n ∷ rest → Sound (done ++ (n ∷ [])) done (record { count = t .count; ready = rest; deferred = t .deferred })
+        first : (n : ℕ) (rest : List ℕ) → t .ready ≡ n ∷ rest →
+            Sound (done ++ (n ∷ [])) done (record { count = t .count; ready = rest; deferred = t .deferred })
         first n rest e = record {
           within = s .within;
           counted = λ m. omega (arith, s .counted m, times-append m done (n ∷ []), ap (times m) e);

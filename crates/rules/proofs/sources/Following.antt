@@ -83,7 +83,9 @@ module _ {X Y : Type 0} {f : X → Y} {S : Source X} {T : Source Y} (follows : F
     finish-map : (finish S m l .answer ≡ Refused 14 → ⊥) → finish T (mapMachine f m) l ≡ mapChosen f (finish S m l)
     unfolding finish finishFirst
     finish-map n = by-test (eqb (slotOf m l .pipe .0) 0)
-        (λ e. rw (e, follows .releases (slotOf m l .token .0) (m .source) (λ q. n (rw (e, q)))) (finish-first-map (slotOf m l) (S .release (slotOf m l .token .0) (m .source))))
+        (λ e.
+        rw (e, follows .releases (slotOf m l .token .0) (m .source) (λ q. n (rw (e, q))))
+        (finish-first-map (slotOf m l) (S .release (slotOf m l .token .0) (m .source))))
         (λ e. rw e (finish-with-map (slotOf m l) (m .source)))
 
     move-map : (move S m l .answer ≡ Refused 14 → ⊥) → move T (mapMachine f m) l ≡ mapChosen f (move S m l)

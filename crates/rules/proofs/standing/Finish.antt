@@ -13,7 +13,8 @@ use Rattle.rules.specs.WholeRuns.{PipelineInRange}
 use Rattle.rules.proofs.lists.Tests.{same, other, sameAs, lower, upper, below, holds, fails, see, never, same-pair, other-pair}
 use Rattle.rules.proofs.lists.Rotation.{turns}
 use Rattle.rules.proofs.standing.Standing.{Standing, serialAt, Good, put-same, put-other, reached, waiting, toStart, toFinish, turn, finish}
-use Rattle.rules.proofs.standing.Standing.{finish-here, finish-line, start-line, start-busy, start-finish, finishes-next, turn-yes, turn-no, turn-parallel}
+use Rattle.rules.proofs.standing.Standing.{finish-here, finish-line, start-line, start-busy, start-finish, finishes-next}
+use Rattle.rules.proofs.standing.Standing.{turn-yes, turn-no, turn-parallel}
 
 -- the pipe after is one of the pipes
 pub next-lt : (n p : ℕ) → p < n → next n p < n

@@ -55,7 +55,10 @@ add-if7 c = search needs
 
 returns-7 : tie.Need-returns-7
 unfolding recordCheck
-returns-7 c = rw (← c .before .before .before .before .before .before .before .field .ensures, ← c .before .before .before .before .field2 .ensures) (search tests depth 12)
+returns-7 c =
+    let at-count = c .before .before .before .before in
+    let at-token = at-count .before .before .before in
+    rw (← at-token .field .ensures, ← at-count .field2 .ensures) (search tests depth 12)
 
 sub-check-numbers : tie.Need-sub-check-numbers
 sub-check-numbers c = search needs
@@ -74,7 +77,9 @@ unfolding recordCheck
 returns-8 c =
     let count = c .before .before .before .before .before .before .field2 .result in
     let size : 4 + 2 * count - 4 ≡ 2 * count = omega arith in
-    rw (← c .before .before .before .before .before .before .before .before .before .field .ensures, ← c .before .before .before .before .before .before .field2 .ensures, c .check-numbers .ensures, size) (search tests depth 12)
+    let at-count = c .before .before .before .before .before .before in
+    let at-token = at-count .before .before .before in
+    rw (← at-token .field .ensures, ← at-count .field2 .ensures, c .check-numbers .ensures, size) (search tests depth 12)
 
 pub check-record-spec : {M : Type 1} → statement M
 check-record-spec =

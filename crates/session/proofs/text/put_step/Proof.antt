@@ -39,7 +39,20 @@ put-requires : tie.Need-put-requires
 put-requires c κs = search needs
 
 same-length : tie.Need-same-length
-same-length c = omega (arith, c .before .before .put .kept .1 .0, c .before .before .before .before .before .before .before .put-number4 .kept .1 .0, c .before .before .before .before .before .before .before .before .before .before .before .before .put-number3 .kept .1 .0, c .before .before .before .before .before .before .before .before .before .before .before .before .before .before .before .before .before .put-number2 .kept .1 .0, c .before .before .before .before .before .before .before .before .before .before .before .before .before .before .before .before .before .before .before .before .before .before .put-number .kept .1 .0)
+same-length c =
+    let at-put = c .before .before in
+    let at-place = at-put .before .before .before .before .before in
+    let at-token = at-place .before .before .before .before .before in
+    let at-pipe = at-token .before .before .before .before .before in
+    let at-line = at-pipe .before .before .before .before .before in
+    omega (
+      arith,
+      at-put .put .kept .1 .0,
+      at-place .put-number4 .kept .1 .0,
+      at-token .put-number3 .kept .1 .0,
+      at-pipe .put-number2 .kept .1 .0,
+      at-line .put-number .kept .1 .0,
+    )
 
 returns : tie.Need-returns
 returns c = search needs
