@@ -1,14 +1,9 @@
 // The stored plan files: `R n` for a refused one, `H a p l n r` for the header of an accepted one.
 use crate::stored;
+use crate::stored::Turn;
 use plan::Header;
 use plan::Reading;
 use session::Sink;
-
-// What one stored file leads to: whether there was one, and the output.
-struct Turn {
-    more: bool,
-    sink: Sink,
-}
 
 fn put_header(sink: Sink, out: &mut [u8], h: Header) -> Sink {
     let s = session::put_number(sink.put(out, b"H"), out, h.start as u64);
@@ -32,7 +27,7 @@ fn put_reading(sink: Sink, out: &mut [u8], file: &[u8]) -> Sink {
 }
 
 // The next stored file.
-fn next(fd: i32, sink: Sink, out: &mut [u8]) -> Turn {
+pub fn next(fd: i32, sink: Sink, out: &mut [u8]) -> Turn {
     let mut file = io::large_buffer();
     let size = stored::two_bytes(fd);
     if !size.there {
@@ -47,32 +42,4 @@ fn next(fd: i32, sink: Sink, out: &mut [u8]) -> Turn {
         more: true,
         sink: said,
     }
-}
-
-// All stored files. (The count of turns is there for the proof that the loop ends.)
-fn each(fd: i32, out: &mut [u8]) -> Sink {
-    let mut sink = Sink::written();
-    let mut turns = u64::MAX;
-    while turns > 0 {
-        let t = next(fd, sink, out);
-        sink = t.sink;
-        if t.more {
-            turns -= 1;
-        } else {
-            turns = 0;
-        }
-    }
-    sink
-}
-
-pub fn run() {
-    let fd = os::open_read(b"plans.bin");
-    if fd < 0 {
-        os::fail(b"plans.bin");
-        return;
-    }
-    let mut out = io::large_buffer();
-    let sink = each(fd, &mut out);
-    sink.flush(&out);
-    libc::close(fd);
 }

@@ -1,14 +1,9 @@
 // The stored runs: a plan and the program's input, printed whole after `=`; or a plan and choices made from a seed, of which
 // `# lines sum` is printed, the digest of the output.
 use crate::stored;
+use crate::stored::Turn;
 use session::Session;
 use session::Sink;
-
-// What one stored run leads to: whether there was one, and the output.
-struct Turn {
-    more: bool,
-    sink: Sink,
-}
 
 // Choices made from a seed: so many, each below a modulus.
 struct Made {
@@ -107,7 +102,7 @@ fn made_run(fd: i32, file: &[u8], sink: Sink, out: &mut [u8]) -> Sink {
 }
 
 // The next stored run.
-fn next(fd: i32, sink: Sink, out: &mut [u8]) -> Turn {
+pub fn next(fd: i32, sink: Sink, out: &mut [u8]) -> Turn {
     let mut file = io::large_buffer();
     let size = stored::two_bytes(fd);
     if !size.there {
@@ -130,32 +125,4 @@ fn next(fd: i32, sink: Sink, out: &mut [u8]) -> Turn {
         more: true,
         sink: said,
     }
-}
-
-// All stored runs. (The count of turns is there for the proof that the loop ends.)
-fn each(fd: i32, out: &mut [u8]) -> Sink {
-    let mut sink = Sink::written();
-    let mut turns = u64::MAX;
-    while turns > 0 {
-        let t = next(fd, sink, out);
-        sink = t.sink;
-        if t.more {
-            turns -= 1;
-        } else {
-            turns = 0;
-        }
-    }
-    sink
-}
-
-pub fn run() {
-    let fd = os::open_read(b"runs.bin");
-    if fd < 0 {
-        os::fail(b"runs.bin");
-        return;
-    }
-    let mut out = io::large_buffer();
-    let sink = each(fd, &mut out);
-    sink.flush(&out);
-    libc::close(fd);
 }

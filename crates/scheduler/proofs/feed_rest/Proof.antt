@@ -1,14 +1,10 @@
 -- `feed_rest` is safe and ends: its turns are counted down.
 use mathlib.Core.Path.{_≡_}
 use Prim.Native.Nat.{_<_, _^_}
-use native.Mathlib.Omega.{arith}
 use lib.ListN.{length}
 use borrow.Author.Needs.{needs}
 use Rattle.scheduler.proofs.feed_rest.Statement.{statement}
 use Rattle.scheduler.proofs.feed_rest.Tie as tie
-use Rattle.scheduler.proofs.feed_rest.Reads as reads
-use Rattle.scheduler.proofs.feed_rest.Lts as lts
-use Rattle.scheduler.proofs.feed_some.Reads as feed-some-reads
 
 abbrev Inv-loop : tie.InvT-loop
 Inv-loop mem₀ out₀ now₀ turns₀ mem out now turns = (length mem ≡ length mem₀) × (length out ≡ length out₀) × (turns < 2 ^ 64)

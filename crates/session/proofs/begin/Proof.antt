@@ -4,10 +4,6 @@ use Rattle.engine.specs.declared.beginning.Opened.{Opened}
 use borrow.Author.Needs.{needs}
 use Rattle.session.proofs.begin.Statement.{statement}
 use Rattle.session.proofs.begin.Tie as tie
-use Rattle.session.proofs.begin.Reads as reads
-use Rattle.session.proofs.begin.Lts as lts
-use Rattle.engine.proofs.open.Reads as open-reads
-use Rattle.session.proofs.text.put_refusal.Reads as put-refusal-reads
 
 open-requires : tie.Need-open-requires
 open-requires c κs = search needs

@@ -6,10 +6,6 @@ use Rattle.engine.specs.Machines.{chosenOf}
 use borrow.Author.Needs.{needs}
 use Rattle.session.proofs.choose.Statement.{statement}
 use Rattle.session.proofs.choose.Tie as tie
-use Rattle.session.proofs.choose.Reads as reads
-use Rattle.session.proofs.choose.Lts as lts
-use Rattle.engine.proofs.choose.Reads as choose-reads
-use Rattle.session.proofs.text.put_answer.Reads as put-answer-reads
 
 choose-requires : tie.Need-choose-requires
 choose-requires c κs = search needs

@@ -10,9 +10,6 @@ use Rattle.session.proofs.Feeding.{follow-turn, follow-end}
 use borrow.Author.Needs.{needs}
 use Rattle.session.proofs.feed.Statement.{statement}
 use Rattle.session.proofs.feed.Tie as tie
-use Rattle.session.proofs.feed.Reads as reads
-use Rattle.session.proofs.feed.Lts as lts
-use Rattle.session.proofs.choose.Reads as choose-reads
 
 abbrev Inv-loop : tie.InvT-loop
 Inv-loop choices mem₀ out₀ now₀ i₀ mem out now i =

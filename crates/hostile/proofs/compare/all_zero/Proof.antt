@@ -3,8 +3,6 @@ use Prim.Native.Nat.{_≤_, _-_}
 use borrow.Author.Needs.{needs}
 use Rattle.hostile.proofs.compare.all_zero.Statement.{statement}
 use Rattle.hostile.proofs.compare.all_zero.Tie as tie
-use Rattle.hostile.proofs.compare.all_zero.Reads as reads
-use Rattle.hostile.proofs.compare.all_zero.Lts as lts
 
 abbrev Inv-loop : tie.InvT-loop
 Inv-loop a i₀ i = i ≤ 32767

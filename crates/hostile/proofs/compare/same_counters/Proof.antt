@@ -1,13 +1,8 @@
 -- `same_counters` is safe and ends.
-use mathlib.Core.Path.{_≡_}
 use Prim.Native.Nat.{_≤_, _-_}
-use native.Mathlib.Omega.{arith}
-use lib.ListN.{length, length-set}
 use borrow.Author.Needs.{needs}
 use Rattle.hostile.proofs.compare.same_counters.Statement.{statement}
 use Rattle.hostile.proofs.compare.same_counters.Tie as tie
-use Rattle.hostile.proofs.compare.same_counters.Reads as reads
-use Rattle.hostile.proofs.compare.same_counters.Lts as lts
 
 abbrev Inv-loop : tie.InvT-loop
 Inv-loop a b i₀ i = i ≤ 512

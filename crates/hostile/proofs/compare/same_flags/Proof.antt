@@ -1,13 +1,8 @@
 -- `same_flags` is safe and ends.
-use mathlib.Core.Path.{_≡_}
 use Prim.Native.Nat.{_≤_, _-_}
-use native.Mathlib.Omega.{arith}
-use lib.ListN.{length, length-set}
 use borrow.Author.Needs.{needs}
 use Rattle.hostile.proofs.compare.same_flags.Statement.{statement}
 use Rattle.hostile.proofs.compare.same_flags.Tie as tie
-use Rattle.hostile.proofs.compare.same_flags.Reads as reads
-use Rattle.hostile.proofs.compare.same_flags.Lts as lts
 
 abbrev Inv-loop : tie.InvT-loop
 Inv-loop a b i₀ i = i ≤ 16

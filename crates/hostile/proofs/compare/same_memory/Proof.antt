@@ -3,8 +3,6 @@ use Prim.Native.Nat.{_≤_, _-_}
 use borrow.Author.Needs.{needs}
 use Rattle.hostile.proofs.compare.same_memory.Statement.{statement}
 use Rattle.hostile.proofs.compare.same_memory.Tie as tie
-use Rattle.hostile.proofs.compare.same_memory.Reads as reads
-use Rattle.hostile.proofs.compare.same_memory.Lts as lts
 
 abbrev Inv-loop : tie.InvT-loop
 Inv-loop a b i₀ i = i ≤ 32768

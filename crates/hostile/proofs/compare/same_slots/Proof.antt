@@ -1,14 +1,8 @@
 -- `same_slots` is safe and ends.
-use mathlib.Core.Path.{_≡_}
 use Prim.Native.Nat.{_≤_, _-_}
-use native.Mathlib.Omega.{arith}
-use lib.ListN.{length, length-set}
 use borrow.Author.Needs.{needs}
 use Rattle.hostile.proofs.compare.same_slots.Statement.{statement}
 use Rattle.hostile.proofs.compare.same_slots.Tie as tie
-use Rattle.hostile.proofs.compare.same_slots.Reads as reads
-use Rattle.hostile.proofs.compare.same_slots.Lts as lts
-use Rattle.hostile.proofs.compare.same_slot.Reads as same-slot-reads
 
 abbrev Inv-loop : tie.InvT-loop
 Inv-loop a b i₀ i = i ≤ 32

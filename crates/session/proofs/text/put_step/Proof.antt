@@ -3,10 +3,6 @@ use native.Mathlib.Omega.{arith}
 use borrow.Author.Needs.{needs}
 use Rattle.session.proofs.text.put_step.Statement.{statement}
 use Rattle.session.proofs.text.put_step.Tie as tie
-use Rattle.session.proofs.text.put_step.Reads as reads
-use Rattle.session.proofs.text.put_step.Lts as lts
-use Rattle.session.proofs.sink.Sink.put.Reads as put-reads
-use Rattle.session.proofs.text.put_number.Reads as put-number-reads
 
 cast-put-number : tie.Need-cast-put-number
 cast-put-number c = search needs

@@ -1,16 +1,10 @@
 -- `feed_made` is safe and ends: it counts down what is left to make.
 use mathlib.Core.Path.{_≡_}
 use Prim.Native.Nat.{_<_, _^_}
-use native.Mathlib.Omega.{arith}
 use lib.ListN.{length}
 use borrow.Author.Needs.{needs}
 use Rattle.vectors.proofs.runs.feed_made.Statement.{statement}
 use Rattle.vectors.proofs.runs.feed_made.Tie as tie
-use Rattle.vectors.proofs.runs.feed_made.Reads as reads
-use Rattle.vectors.proofs.runs.feed_made.Lts as lts
-use Rattle.session.proofs.choose.Reads as choose-reads
-use Rattle.vectors.proofs.runs.choice_of.Reads as choice-of-reads
-use Rattle.vectors.proofs.runs.next_seed.Reads as next-seed-reads
 
 abbrev Inv-loop : tie.InvT-loop
 Inv-loop mem₀ out₀ now₀ seed₀ modulus left₀ mem out now seed left = (length mem ≡ length mem₀) × (length out ≡ length out₀) × (left < 2 ^ 64)

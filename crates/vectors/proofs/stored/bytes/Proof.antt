@@ -7,9 +7,6 @@ use Rattle.io.proofs.Counting.{counts}
 use borrow.Author.Needs.{needs}
 use Rattle.vectors.proofs.stored.bytes.Statement.{statement}
 use Rattle.vectors.proofs.stored.bytes.Tie as tie
-use Rattle.vectors.proofs.stored.bytes.Reads as reads
-use Rattle.vectors.proofs.stored.bytes.Lts as lts
-use Rattle.io.proofs.read_full.Reads as read-full-reads
 
 returns : tie.Need-returns
 returns c = search needs

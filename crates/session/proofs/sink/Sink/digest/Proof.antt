@@ -4,10 +4,6 @@ use lib.ListN.{length}
 use borrow.Author.Needs.{needs}
 use Rattle.session.proofs.sink.Sink.digest.Statement.{statement}
 use Rattle.session.proofs.sink.Sink.digest.Tie as tie
-use Rattle.session.proofs.sink.Sink.digest.Reads as reads
-use Rattle.session.proofs.sink.Sink.digest.Lts as lts
-use Rattle.session.proofs.sink.add.Reads as add-reads
-use Rattle.std.proofs.num.wrapping_add_u64.Reads as wrapping-add-u64-reads
 
 abbrev Inv-loop : tie.InvT-loop
 Inv-loop bytes sum₀ lines₀ i₀ sum lines i = i ≤ length bytes

@@ -5,10 +5,6 @@ use lib.Seq.{length-take-le}
 use borrow.Author.Needs.{needs}
 use Rattle.session.proofs.sink.Sink.flush.Statement.{statement}
 use Rattle.session.proofs.sink.Sink.flush.Tie as tie
-use Rattle.session.proofs.sink.Sink.flush.Reads as reads
-use Rattle.session.proofs.sink.Sink.flush.Lts as lts
-use Rattle.io.proofs.write_all.Reads as write-all-reads
-use Rattle.session.proofs.sink.Sink.digest.Reads as digest-reads
 
 returns : tie.Need-returns
 returns c = search needs

@@ -6,8 +6,6 @@ use lib.ListN.{length, length-set}
 use borrow.Author.Needs.{needs}
 use Rattle.session.proofs.sink.Sink.store.Statement.{statement}
 use Rattle.session.proofs.sink.Sink.store.Tie as tie
-use Rattle.session.proofs.sink.Sink.store.Reads as reads
-use Rattle.session.proofs.sink.Sink.store.Lts as lts
 
 abbrev Inv-loop : tie.InvT-loop
 Inv-loop self out₀ text from size count i₀ out i = (i ≤ count) × (length out ≡ length out₀)

@@ -3,18 +3,14 @@ use mathlib.Core.Path.{_≡_}
 use Prim.Native.Nat.{_<_, _^_}
 use lib.ListN.{length}
 use borrow.Author.Needs.{needs}
-use Rattle.vectors.proofs.plans.each.Statement.{statement}
-use Rattle.vectors.proofs.plans.each.Tie as tie
-use Rattle.vectors.proofs.plans.each.Reads as reads
-use Rattle.vectors.proofs.plans.each.Lts as lts
-use Rattle.session.proofs.sink.Sink.written.Reads as written-reads
-use Rattle.vectors.proofs.plans.next.Reads as next-reads
+use Rattle.vectors.proofs.each.Statement.{statement}
+use Rattle.vectors.proofs.each.Tie as tie
 
 abbrev Inv-loop : tie.InvT-loop
-Inv-loop fd out₀ sink₀ turns₀ out sink turns = (length out ≡ length out₀) × (turns < 2 ^ 64)
+Inv-loop fd of_runs out₀ sink₀ turns₀ out sink turns = (length out ≡ length out₀) × (turns < 2 ^ 64)
 
 abbrev μ-loop : tie.MeasureT-loop
-μ-loop fd out₀ sink₀ turns₀ out sink turns = turns
+μ-loop fd of_runs out₀ sink₀ turns₀ out sink turns = turns
 
 written-requires : tie.Need-written-requires Inv-loop μ-loop
 written-requires c κs = search needs
