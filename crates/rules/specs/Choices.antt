@@ -4,7 +4,7 @@ use mathlib.Core.List.{List, [], _∷_}
 use Prim.Native.Nat.{ℕ, zero, suc, _+_, _-_, _/_, _%_}
 use lib.Dec.{ltb, eqb}
 use lib.ListN.{getD, set, replicate}
-use Rattle.rules.specs.Lists.{if, must, mustNot, table}
+use Rattle.rules.specs.Lists.{if, must, mustNot, all, table}
 use Rattle.rules.specs.Sources.{Source, Taken, Spoiled, Nothing, Took, Released, Broken, Passed}
 use Rattle.rules.specs.RunState.{Pipeline, Machine, idle, runs, waits, counterAt, slotOf, counterOf, isSerial, full}
 use Rattle.rules.specs.Ranges.{sound}
@@ -172,8 +172,10 @@ module _ {X : Type 0} (S : Source X) where
 -- "At opening: line 0 pipe 0 has 0; pipe 0 of other lines 1; other pipes of line 0 have 1; the rest are full."
 unfoldable pub openedCounter : ℕ → ℕ → Bool → ℕ
 openedCounter l p serial =
-    if (eqb l 0) (if (eqb p 0) 0 1)
-    (if (eqb p 0) 1 (full serial))
+    if (all (eqb l 0 ∷ eqb p 0 ∷ [])) 0
+    (if (eqb p 0) 1
+    (if (eqb l 0) 1
+    (full serial)))
 
 -- "The run holds 512 counters (32 × 16); unused ones are 0."
 unfoldable pub tabled : Pipeline → (ℕ → ℕ → ℕ) → List ℕ

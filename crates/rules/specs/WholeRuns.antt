@@ -6,7 +6,7 @@ use mathlib.Core.List.{List, [], _∷_, _++_}
 use Prim.Native.Nat.{ℕ, zero, suc, _+_, _*_, _%_, _≤_, _<_}
 use lib.Dec.{eqb}
 use lib.ListN.{length, getD, replicate}
-use Rattle.rules.specs.Lists.{if, samePair, Every}
+use Rattle.rules.specs.Lists.{if, all, samePair, Every}
 use Rattle.rules.specs.Sources.{Source, Writes}
 use Rattle.rules.specs.RunState.{Pipeline, Machine, full, idle}
 use Rattle.rules.specs.Choices.{Answer, Started, Finished, Stopped, Refused, tabled, opened, choose, answers, follow, ended}
@@ -36,8 +36,10 @@ pub record Sheet {X : Type 0} (S : Source X) (plan : Pipeline) (x : X) (order : 
 -- the counters at the end: as at opening, with the line that stopped for line 0; its counter at pipe 0 is full
 unfoldable pub endedCounter : ℕ → ℕ → ℕ → Bool → ℕ
 endedCounter stopper l p serial =
-    if (eqb l stopper) (if (eqb p 0) 2 1)
-    (if (eqb p 0) 1 (full serial))
+    if (all (eqb l stopper ∷ eqb p 0 ∷ [])) 2
+    (if (eqb p 0) 1
+    (if (eqb l stopper) 1
+    (full serial)))
 
 -- the run at the end, when M tokens have been placed
 unfoldable pub final : {X : Type 0} → Pipeline → ℕ → ℕ → X → Machine X
