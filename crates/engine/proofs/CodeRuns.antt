@@ -3,15 +3,13 @@ use mathlib.Core.Path.{_≡_, refl, sym, ap, subst, _∙_}
 use mathlib.Core.Bool.{true}
 use mathlib.Core.List.{List, [], _∷_, _++_, map}
 use Prim.Native.Nat.{ℕ, _≤_}
-use native.Mathlib.Omega.{arith}
-use lib.ListN.{length, drop}
-use lib.Seq.{drop-at}
+use lib.ListN.{length}
 use Rattle.rules.specs.Lists.{Every, within}
 use Rattle.rules.specs.RunState.{Machine}
 use Rattle.rules.specs.Choices as rules
 use Rattle.rules.specs.Choices.{Refused, choose, answers, follow, ended, opened}
 use Rattle.rules.specs.Ranges.{sound, numbersSound}
-use Rattle.rules.specs.WholeRuns.{WorkersInRange, final}
+use Rattle.rules.specs.WholeRuns.{WorkersInRange}
 use Rattle.rules.specs.Answers.{answerOf}
 use Rattle.rules.specs.declared.answer.Answer.{Answer}
 use Rattle.rules.specs.declared.refusal.Refusal.{Refusal}
@@ -23,11 +21,11 @@ use Rattle.plan.proofs.Theorem.{one-plan}
 use Rattle.tables.specs.State as tables
 use Rattle.tables.specs.Calls.{memorySource}
 use Rattle.opening.specs.Plans.{pipelineOf}
-use Rattle.opening.specs.Demands.{begun, told, left, endState, Run, Demands}
+use Rattle.opening.specs.Demands.{begun, told, left, endState, Demands}
 use Rattle.engine.specs.Machines.{machineOf, chosenOf}
 use Rattle.engine.specs.Moves.{endedOf}
 use Rattle.engine.specs.Opened.{stateOf, openOf, refusedWith, OpenedRun}
-use Rattle.engine.specs.CodeRuns.{OpenCall, Calls, no-call, call, Session, eventsOf, Shows, SameEnd, CodeDemands, RefusedOpening}
+use Rattle.engine.specs.CodeRuns.{OpenCall, Calls, no-call, call, Session, eventsOf, SameEnd, CodeDemands, RefusedOpening}
 use Rattle.engine.specs.declared.State.{State}
 use Rattle.engine.specs.declared.beginning.Opening.{Opening}
 use Rattle.engine.specs.declared.beginning.Opened.{Opened}
@@ -52,45 +50,12 @@ last-unspoiled a [] l each = each .0
 last-unspoiled a (k ∷ ls) l each = last-unspoiled (choose memorySource a k .machine) ls l (each .1)
 
 module _ {p : Plan} (demands : Demands p) (m : List ℕ) (enough : 32768 ≤ length m) {workers : ℕ} (manned : WorkersInRange workers) (ls : List ℕ) where
-  abbrev run : Run p m workers ls (demands .last m)
-  run = demands .runs m workers manned ls
-
   -- the numbers that a run leaves are in range: no choice after it gets 14
   left-sound : sound memorySource (left p m workers ls) ≡ true
   unfolding choose
   left-sound = by-test (sound memorySource (left p m workers ls))
       (λ yes. yes)
-      (λ no. absurd (last-unspoiled _ ls 0 (demands .runs m workers manned (ls ++ (0 ∷ [])) .whole .never-spoiled) (rw no)))
-
-  -- what is lent beyond the first 32,768 numbers
-  beyond-left : drop 32768 (left p m workers ls .source .1) ≡ drop 32768 m
-  beyond-left =
-      ap (λ (a : Machine tables.State). drop 32768 (a .source .1)) (run .beyond-kept)
-      ∙ drop-at (left p [] workers ls .source .1) (drop 32768 m) 32768 (omega (arith, demands .runs [] workers manned ls .lent))
-
-  run-shows : Shows p workers m ls (told p m workers ls) (left p m workers ls) (ended (left p m workers ls))
-  unfolding final
-  run-shows = record {
-    over-is = refl;
-    order-part = run .whole .order-part;
-    order-whole = run .whole .order-whole;
-    count = run .whole .count;
-    carries = run .whole .carries;
-    at-most-once = run .whole .at-most-once;
-    each-once = run .whole .each-once;
-    in-turn = run .whole .in-turn;
-    after-deferred = run .after-deferred;
-    stays = run .stays;
-    stays-once = run .stays-once;
-    stays-blocked = run .stays-blocked;
-    end-state = λ over. let e = run .whole .end-state over in e ∙ ap (final _ workers _) (sym (ap (λ a. a .source) e));
-    goes-on = run .whole .goes-on;
-    never-spoiled = run .whole .never-spoiled;
-    answers-as-rules = run .answers-as-rules;
-    left-as-rules = run .left-as-rules;
-    length-kept = run .lent ∙ omega arith;
-    beyond-kept = beyond-left;
-  }
+      (λ no. absurd (last-unspoiled _ ls 0 (demands .runs m enough workers manned (ls ++ (0 ∷ [])) .never-spoiled) (rw no)))
 
 -- a session is one of this plan's runs
 record RunOf (p : Plan) {file : List ℕ} {workers : ℕ} {m ls : List ℕ} (s : Session file workers m ls) : Type 0 where
@@ -152,7 +117,7 @@ module _ {file : List ℕ} (bytes : Bytes file) where
         enough = a .enough;
         told-is = r .events-are;
         left-is = r .left-is;
-        shows = rw (r .events-are, r .left-is, r .ended-is) (run-shows (a .demands) m (a .enough) (a .manned) ls);
+        shows = rw (r .events-are, r .left-is, r .ended-is) (a .demands .runs m (a .enough) workers (a .manned) ls);
         same-end = λ t. one-end s t;
         one-worker = λ {m} t. rw (run-of t (a .plan) (a .valid) (a .file-is) .events-are) (a .demands .one-worker m);
         one-worker-stops = λ {m} t last. rw (run-of t (a .plan) (a .valid) (a .file-is) .events-are) (a .demands .one-worker-stops m last);

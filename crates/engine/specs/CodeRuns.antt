@@ -1,28 +1,20 @@
 -- Runs of the code: what a caller of `open`, `choose` and `ended` sees, and what the demands say of it.
 -- Of each call nothing is known here but what its `ensures` says, in the same words.
 use mathlib.Core.Path.{_≡_}
-use mathlib.Core.Logic.{_↔_}
-use mathlib.Core.Bool.{Bool, true, false}
-use mathlib.Core.List.{List, [], _∷_, _++_, map}
-use Prim.Native.Nat.{ℕ, _+_, _*_, _%_, _≤_, _<_}
-use lib.ListN.{length, getD, take, drop}
-use Rattle.rules.specs.Lists.{has, times, Every}
-use Rattle.rules.specs.TakingTokens as taking
-use Rattle.rules.specs.RunState.{Machine}
+use mathlib.Core.Bool.{true}
+use mathlib.Core.List.{List, [], _∷_, map}
+use Prim.Native.Nat.{ℕ, _%_, _≤_}
+use lib.ListN.{length, take}
+use Rattle.rules.specs.Lists.{Every}
 use Rattle.rules.specs.Choices as rules
-use Rattle.rules.specs.Choices.{Started, Finished, Stopped, Refused, opened, choose, answers, follow, ended}
-use Rattle.rules.specs.PlainSheet.{Row, rows, plainSource}
-use Rattle.rules.specs.Chains.{Blocked}
-use Rattle.rules.specs.WholeRuns.{WorkersInRange, Accepted, Carries, ordered, accepted, lastOf, startsOf, finishesOf, final}
+use Rattle.rules.specs.Choices.{Stopped, Refused, choose}
+use Rattle.rules.specs.WholeRuns.{WorkersInRange, Accepted, lastOf}
 use Rattle.rules.specs.Answers.{answerOf}
 use Rattle.rules.specs.declared.answer.Answer.{Answer}
 use Rattle.rules.specs.declared.refusal.Refusal.{Refusal}
 use Rattle.plan.specs.Plan.{Plan, Valid, encode}
-use Rattle.tables.specs.State as tables
-use Rattle.tables.specs.State.{tableOf}
 use Rattle.tables.specs.Calls.{memorySource}
-use Rattle.opening.specs.Plans.{pipelineOf}
-use Rattle.opening.specs.Demands.{Came, IsStarted, Alike, numbers, order, told, left, oneWorkerChoices}
+use Rattle.opening.specs.Demands.{Shows, order, told, left, oneWorkerChoices}
 use Rattle.engine.specs.Machines.{machineOf, chosenOf}
 use Rattle.engine.specs.Moves.{endedOf}
 use Rattle.engine.specs.Opened.{openOf, refusedWith}
@@ -58,51 +50,6 @@ pub record Session (file : List ℕ) (workers : ℕ) (lent choices : List ℕ) :
   pub memory : List ℕ
   pub calls : Calls (opening .state) begun choices answers state memory
 
--- What the demands say of a run's answers, of the machine that it left, and of its end. For a session these are the
--- paper's values of the code's answers, the machine of the state and memory that it left, and what `ended` returns for
--- that state.
-pub record Shows (p : Plan) (workers : ℕ) (lent choices : List ℕ) (events : List rules.Answer) (left : Machine tables.State) (over : Bool) : Type 0 where
-  -- "The run has ended when it is marked stopped, no line runs and no waiting line has counter 0."
-  pub over-is : over ≡ ended left
-  -- "The order of a run is that of its Started events at pipe 0. After any list it is a first part of the sheet, at the
-  -- end all of it."
-  pub order-part : (rest : List Row) × (ordered events ++ rest ≡ rows (p .lines) 0 (order p))
-  pub order-whole : over ≡ true → ordered events ≡ rows (p .lines) 0 (order p)
-  -- it has ended exactly when 2·M·P + 1 choices were accepted
-  pub count : (over ≡ true) ↔ (accepted events ≡ 2 * length (order p) * length (p .kinds) + 1)
-  -- "Each Started or Finished carries the sheet's place and line for its token."
-  pub carries : Every (Carries (pipelineOf p) (order p)) events
-  -- "At the end each token of the sheet has had exactly one of each at every pipe."
-  pub at-most-once : (q k : ℕ) → q < length (p .kinds) → k < length (order p) → (startsOf q k events ≤ 1) × (finishesOf q k events ≤ 1)
-  pub each-once : over ≡ true → (q k : ℕ) → q < length (p .kinds) → k < length (order p) → (startsOf q k events ≡ 1) × (finishesOf q k events ≡ 1)
-  -- "At a serial pipe a token starts after the one before it on the sheet has finished there,
-  pub in-turn : (before after : List rules.Answer) (l q t k : ℕ) → events ≡ before ++ (Started l q t k ∷ after) →
-      getD (pipelineOf p .serial) q false ≡ true → (j : ℕ) → j < k → finishesOf q j before ≡ 1
-  -- and so after all it deferred to: every number that its records list."
-  pub after-deferred : (before after : List rules.Answer) (l q t k : ℕ) → events ≡ before ++ (Started l q t k ∷ after) →
-      getD (pipelineOf p .serial) q false ≡ true → (n : ℕ) → has (numbers p t) n ≡ true →
-      (i : ℕ) × (j : ℕ) × Came (Finished i q n j) before
-  -- "A token stays deferred if it is below N and no Started event of a run followed to its end names it; the deferred
-  -- table then holds just these", each once;
-  pub stays : over ≡ true → (n : ℕ) →
-      (has (tableOf (left .source .0) (left .source .1)) n ≡ true) ↔ ((n < p .tokens) × (IsStarted n events → ⊥))
-  pub stays-once : over ≡ true → (n : ℕ) → times n (tableOf (left .source .0) (left .source .1)) ≤ 1
-  -- they are the tokens from which a chain meets a cycle or a number that never enters
-  pub stays-blocked : over ≡ true → (n : ℕ) → n < p .tokens →
-      (has (tableOf (left .source .0) (left .source .1)) n ≡ true) ↔ Blocked (p .tokens) (numbers p) n
-  -- at the end every number of the state but those of the tables is told by the plan, W and M
-  pub end-state : over ≡ true → left ≡ final (pipelineOf p) workers (length (order p)) (left .source)
-  -- "before its end every run has an allowed choice": one that `choose` would accept next
-  pub goes-on : over ≡ false → (l : ℕ) × (l < p .lines) × Accepted (choose memorySource left l .answer)
-  -- "no run gets 14"
-  pub never-spoiled : Every (λ a. a ≡ Refused 14 → ⊥) events
-  -- demand 2: the answers are those of the rules, and so is the machine, but for the tables, which match
-  pub answers-as-rules : events ≡ answers (plainSource (p .tokens) (numbers p)) (opened (pipelineOf p) workers taking.opened) choices
-  pub left-as-rules : Alike (p .tokens) (numbers p) (follow (plainSource (p .tokens) (numbers p)) (opened (pipelineOf p) workers taking.opened) choices) left
-  -- the memory keeps its length; "anything beyond is untouched"
-  pub length-kept : length (left .source .1) ≡ length lent
-  pub beyond-kept : drop 32768 (left .source .1) ≡ drop 32768 lent
-
 -- the state but for W
 abbrev pub butWorkers : State → State
 butWorkers s = record {
@@ -133,7 +80,7 @@ pub record CodeDemands {file : List ℕ} {workers : ℕ} {lent choices : List �
   pub file-is : file ≡ encode plan
   pub manned : WorkersInRange workers
   pub enough : 32768 ≤ length lent
-  -- what the code answered and left is what opening/specs/Demands.antt speaks of
+  -- what the code answered and left is what opening/specs/Demands.antt speaks of, and so as `Shows` says there, sentence by sentence
   pub told-is : eventsOf s ≡ told plan lent workers choices
   pub left-is : machineOf (s .state) (s .memory) ≡ left plan lent workers choices
   pub shows : Shows plan workers lent choices (eventsOf s) (machineOf (s .state) (s .memory)) (endedOf (s .state))

@@ -2,21 +2,22 @@
 use mathlib.Core.Path.{_≡_}
 use mathlib.Core.Logic.{_↔_}
 use mathlib.Core.Bool.{Bool, true, false}
-use mathlib.Core.List.{List, [], _∷_, _++_}
-use Prim.Native.Nat.{ℕ, _+_, _-_, _%_, _≤_, _<_}
+use mathlib.Core.List.{List, _∷_, _++_}
+use Prim.Native.Nat.{ℕ, _+_, _*_, _%_, _≤_, _<_}
 use lib.ListN.{length, getD, take, drop}
 use Rattle.rules.specs.Lists.{has, times, Every}
 use Rattle.rules.specs.TakingTokens as rules
 use Rattle.rules.specs.RunState.{Machine}
-use Rattle.rules.specs.Choices.{Answer, Started, Finished, Stopped, opened, answers, follow, ended}
-use Rattle.rules.specs.RelatedSources.{withSource, mapMachine}
-use Rattle.rules.specs.PlainSheet.{sheet, plainSource}
+use Rattle.rules.specs.Choices.{Answer, Started, Finished, Stopped, Refused, opened, choose, answers, follow, ended}
+use Rattle.rules.specs.RelatedSources.{withSource}
+use Rattle.rules.specs.PlainSheet.{Row, rows, sheet, plainSource}
 use Rattle.rules.specs.Chains.{Blocked}
-use Rattle.rules.specs.WholeRuns.{WorkersInRange, WholeRun, events, end, withWorkers, oneWorker, Accepted, lastOf}
+use Rattle.rules.specs.WholeRuns.{WorkersInRange, Carries, ordered, accepted, startsOf, finishesOf, final}
+use Rattle.rules.specs.WholeRuns.{events, end, withWorkers, oneWorker, Accepted, lastOf}
 use Rattle.plan.specs.Plan.{Plan}
 use Rattle.tables.specs.State.{State, openedTables, tableOf}
 use Rattle.tables.specs.Calls.{memorySource}
-use Rattle.tables.specs.Matching.{Match, beyond}
+use Rattle.tables.specs.Matching.{Match}
 use Rattle.opening.specs.Plans.{numbersIn, pipelineOf}
 use Rattle.opening.specs.Layout.{laidOut}
 
@@ -58,28 +59,50 @@ module _ (p : Plan) (m : List ℕ) where
     abbrev pub deferredAtEnd : List ℕ
     deferredAtEnd = tableOf (left .source .0) (left .source .1)
 
--- what holds of a run with so many workers and these choices, where every run leaves these tables and this memory at its end
-pub record Run (p : Plan) (m : List ℕ) (workers : ℕ) (ls : List ℕ) (last : State) : Type 0 where
-  -- demand 3, with the plain sheet for the order
-  pub whole : WholeRun memorySource (pipelineOf p) workers (begun p m) ls (order p) last
-  -- at a serial pipe a token starts after every number that its record lists has finished there
-  pub after-deferred : (before after : List Answer) (l q t k : ℕ) → told p m workers ls ≡ before ++ (Started l q t k ∷ after) →
+-- What the demands say of a run's answers, of the machine that it left, and of its end. For a session of the code these
+-- are the paper's values of its answers, the machine of the state and memory that it left, and what `ended` returns for
+-- that state (engine/specs/CodeRuns.antt).
+pub record Shows (p : Plan) (workers : ℕ) (lent choices : List ℕ) (events : List Answer) (machine : Machine State) (over : Bool) : Type 0 where
+  -- "The run has ended when it is marked stopped, no line runs and no waiting line has counter 0."
+  pub over-is : over ≡ ended machine
+  -- "The order of a run is that of its Started events at pipe 0. After any list it is a first part of the sheet, at the
+  -- end all of it."
+  pub order-part : (rest : List Row) × (ordered events ++ rest ≡ rows (p .lines) 0 (order p))
+  pub order-whole : over ≡ true → ordered events ≡ rows (p .lines) 0 (order p)
+  -- it has ended exactly when 2·M·P + 1 choices were accepted
+  pub count : (over ≡ true) ↔ (accepted events ≡ 2 * length (order p) * length (p .kinds) + 1)
+  -- "Each Started or Finished carries the sheet's place and line for its token."
+  pub carries : Every (Carries (pipelineOf p) (order p)) events
+  -- "At the end each token of the sheet has had exactly one of each at every pipe."
+  pub at-most-once : (q k : ℕ) → q < length (p .kinds) → k < length (order p) → (startsOf q k events ≤ 1) × (finishesOf q k events ≤ 1)
+  pub each-once : over ≡ true → (q k : ℕ) → q < length (p .kinds) → k < length (order p) → (startsOf q k events ≡ 1) × (finishesOf q k events ≡ 1)
+  -- "At a serial pipe a token starts after the one before it on the sheet has finished there,
+  pub in-turn : (before after : List Answer) (l q t k : ℕ) → events ≡ before ++ (Started l q t k ∷ after) →
+      getD (pipelineOf p .serial) q false ≡ true → (j : ℕ) → j < k → finishesOf q j before ≡ 1
+  -- and so after all it deferred to: every number that its records list."
+  pub after-deferred : (before after : List Answer) (l q t k : ℕ) → events ≡ before ++ (Started l q t k ∷ after) →
       getD (pipelineOf p .serial) q false ≡ true → (n : ℕ) → has (numbers p t) n ≡ true →
       (i : ℕ) × (j : ℕ) × Came (Finished i q n j) before
-  -- at the end the deferred table holds, each once, just the tokens below N that no Started event names
-  pub stays : ended (left p m workers ls) ≡ true → (n : ℕ) →
-      (has (deferredAtEnd p m workers ls) n ≡ true) ↔ ((n < p .tokens) × (IsStarted n (told p m workers ls) → ⊥))
-  pub stays-once : ended (left p m workers ls) ≡ true → (n : ℕ) → times n (deferredAtEnd p m workers ls) ≤ 1
-  -- these are the tokens from which a chain meets a cycle or a number that never enters
-  pub stays-blocked : ended (left p m workers ls) ≡ true → (n : ℕ) → n < p .tokens →
-      (has (deferredAtEnd p m workers ls) n ≡ true) ↔ Blocked (p .tokens) (numbers p) n
+  -- "A token stays deferred if it is below N and no Started event of a run followed to its end names it; the deferred
+  -- table then holds just these", each once;
+  pub stays : over ≡ true → (n : ℕ) →
+      (has (tableOf (machine .source .0) (machine .source .1)) n ≡ true) ↔ ((n < p .tokens) × (IsStarted n events → ⊥))
+  pub stays-once : over ≡ true → (n : ℕ) → times n (tableOf (machine .source .0) (machine .source .1)) ≤ 1
+  -- they are the tokens from which a chain meets a cycle or a number that never enters
+  pub stays-blocked : over ≡ true → (n : ℕ) → n < p .tokens →
+      (has (tableOf (machine .source .0) (machine .source .1)) n ≡ true) ↔ Blocked (p .tokens) (numbers p) n
+  -- at the end every number of the state but those of the tables is told by the plan, W and M
+  pub end-state : over ≡ true → machine ≡ final (pipelineOf p) workers (length (order p)) (machine .source)
+  -- "before its end every run has an allowed choice": one that `choose` would accept next
+  pub goes-on : over ≡ false → (l : ℕ) × (l < p .lines) × Accepted (choose memorySource machine l .answer)
+  -- "no run gets 14"
+  pub never-spoiled : Every (λ a. a ≡ Refused 14 → ⊥) events
   -- demand 2: the answers are those of the rules, and so is the machine, but for the tables, which match
-  pub answers-as-rules : told p m workers ls ≡ answers (plainSource (p .tokens) (numbers p)) (opened (pipelineOf p) workers rules.opened) ls
-  pub left-as-rules : Alike (p .tokens) (numbers p)
-      (follow (plainSource (p .tokens) (numbers p)) (opened (pipelineOf p) workers rules.opened) ls) (left p m workers ls)
-  -- the memory keeps its length, what is beyond the first 32,768 numbers is left as it was, and what was in these before plays no part
-  pub lent : length (left p m workers ls .source .1) ≡ 32768 + (length m - 32768)
-  pub beyond-kept : left p m workers ls ≡ mapMachine (beyond (drop 32768 m)) (left p [] workers ls)
+  pub answers-as-rules : events ≡ answers (plainSource (p .tokens) (numbers p)) (opened (pipelineOf p) workers rules.opened) choices
+  pub left-as-rules : Alike (p .tokens) (numbers p) (follow (plainSource (p .tokens) (numbers p)) (opened (pipelineOf p) workers rules.opened) choices) machine
+  -- the memory keeps its length; "anything beyond is untouched"
+  pub length-kept : length (machine .source .1) ≡ length lent
+  pub beyond-kept : drop 32768 (machine .source .1) ≡ drop 32768 lent
 
 -- the end state, but for the workers: the state and the first 32,768 numbers
 abbrev pub endState : Machine State → Machine State
@@ -91,8 +114,8 @@ oneWorkerChoices p = oneWorker (pipelineOf p) 0 (length (order p))
 
 -- what holds of a plan's runs, in whatever memory
 pub record Demands (p : Plan) : Type 0 where
-  pub last : List ℕ → State
-  pub runs : (m : List ℕ) (workers : ℕ) → WorkersInRange workers → (ls : List ℕ) → Run p m workers ls (last m)
+  pub runs : (m : List ℕ) → 32768 ≤ length m → (workers : ℕ) → WorkersInRange workers → (ls : List ℕ) →
+      Shows p workers m ls (told p m workers ls) (left p m workers ls) (ended (left p m workers ls))
   -- two runs that have ended, with whatever memory, workers and choices, have left the same end state
   pub same-end : (m k : List ℕ) (w v : ℕ) → WorkersInRange w → WorkersInRange v → (ls ks : List ℕ) →
       ended (left p m w ls) ≡ true → ended (left p k v ks) ≡ true →

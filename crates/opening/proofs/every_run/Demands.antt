@@ -6,7 +6,7 @@ use mathlib.Core.List.{List, [], _∷_, _++_, append-assoc, append-nil}
 use Prim.Native.Nat.{ℕ, _+_, _-_, _≤_, _<_}
 use native.Mathlib.Omega.{arith}
 use lib.ListN.{length, getD, drop}
-use lib.Seq.{drop-nil, take-append-le}
+use lib.Seq.{drop-nil, drop-at, take-append-le}
 use Rattle.rules.specs.Lists.{has, Every}
 use Rattle.rules.specs.TakingTokens as rules
 use Rattle.rules.specs.Sources.{Source, Writes}
@@ -33,7 +33,7 @@ use Rattle.tables.proofs.sources.SameLength.{length-kept}
 use Rattle.tables.proofs.sources.Refines.{opened-match}
 use Rattle.opening.specs.Plans.{pipelineOf}
 use Rattle.opening.specs.Layout.{zeros, laidFacts, laidOut}
-use Rattle.opening.specs.Demands.{Came, IsStarted, Alike, numbers, order, begun, told, left, deferredAtEnd, Run, endState, Demands}
+use Rattle.opening.specs.Demands.{Came, IsStarted, Alike, numbers, order, begun, told, left, deferredAtEnd, Shows, endState, Demands}
 use Rattle.opening.proofs.memory_laid.ValidPlans.{ranged, others, length-laid, whole, recorded, unmarked}
 use Rattle.opening.proofs.every_run.Events.{every-came, came-token, started-came, finished-came}
 
@@ -158,6 +158,11 @@ module _ (p : Plan) (valid : Valid p) where
   unfolding laidOut
   begun-beyond m = ap {B = State} (λ (l : List ℕ). (openedTables (p .tokens), l)) (spread (laidFacts (p .records)) (zeros 8192) (drop 32768 m) (drop-nil 32768))
 
+  -- a run keeps the length of the opened memory
+  memory-lent : (m : List ℕ) (workers : ℕ) (ls : List ℕ) → length (left p m workers ls .source .1) ≡ 32768 + (length m - 32768)
+  unfolding opened
+  memory-lent m workers ls = follow-keeps (length-kept _) (opened (pipelineOf p) workers (begun p m)) (length-laid valid m) ls
+
   module _ (m : List ℕ) (workers : ℕ) (manned : WorkersInRange workers) (ls : List ℕ) where
     kept-beyond : left p m workers ls ≡ mapMachine (beyond (drop 32768 m)) (left p [] workers ls)
     unfolding opened memorySide
@@ -179,22 +184,37 @@ module _ (p : Plan) (valid : Valid p) where
     plain-ended : ended (left p m workers ls) ≡ true → ended (left p [] workers ls) ≡ true
     plain-ended e = sym (ended-map (beyond (drop 32768 m)) (left p [] workers ls)) ∙ ap ended (sym kept-beyond) ∙ e
 
-    memory-lent : length (left p m workers ls .source .1) ≡ 32768 + (length m - 32768)
-    unfolding opened
-    memory-lent = follow-keeps (length-kept _) (opened (pipelineOf p) workers (begun p m)) (length-laid valid m) ls
+    -- what is lent beyond the first 32,768 numbers
+    beyond-left : drop 32768 (left p m workers ls .source .1) ≡ drop 32768 m
+    beyond-left =
+        ap (λ (a : Machine State). drop 32768 (a .source .1)) kept-beyond
+        ∙ drop-at (left p [] workers ls .source .1) (drop 32768 m) 32768 (omega (arith, memory-lent [] workers ls))
 
-    as-demanded : Run p m workers ls (last p valid m)
-    as-demanded = record {
-      whole = run p valid m workers manned ls;
-      after-deferred = in-order p valid m workers manned ls;
-      stays = stays-unstarted p valid m workers manned ls;
-      stays-once = λ over n. rw (table-is p valid m workers manned ls over) (staying-distinct (p .tokens) (numbers p) (others valid) n);
-      stays-blocked = λ over n h. rw (table-is p valid m workers manned ls over) (stays-iff-blocked (p .tokens) (numbers p) (others valid) n h);
-      answers-as-rules = same-answers p valid m workers manned ls;
-      left-as-rules = same-machine p valid m workers manned ls;
-      lent = memory-lent;
-      beyond-kept = kept-beyond;
-    }
+    shown : 32768 ≤ length m → Shows p workers m ls (told p m workers ls) (left p m workers ls) (ended (left p m workers ls))
+    unfolding final
+    shown enough =
+        let r = run p valid m workers manned ls in
+        record {
+          over-is = refl;
+          order-part = r .order-part;
+          order-whole = r .order-whole;
+          count = r .count;
+          carries = r .carries;
+          at-most-once = r .at-most-once;
+          each-once = r .each-once;
+          in-turn = r .in-turn;
+          after-deferred = in-order p valid m workers manned ls;
+          stays = stays-unstarted p valid m workers manned ls;
+          stays-once = λ over n. rw (table-is p valid m workers manned ls over) (staying-distinct (p .tokens) (numbers p) (others valid) n);
+          stays-blocked = λ over n h. rw (table-is p valid m workers manned ls over) (stays-iff-blocked (p .tokens) (numbers p) (others valid) n h);
+          end-state = λ over. let e = r .end-state over in e ∙ ap (final _ workers _) (sym (ap (λ a. a .source) e));
+          goes-on = r .goes-on;
+          never-spoiled = r .never-spoiled;
+          answers-as-rules = same-answers p valid m workers manned ls;
+          left-as-rules = same-machine p valid m workers manned ls;
+          length-kept = memory-lent m workers ls ∙ omega arith;
+          beyond-kept = beyond-left;
+        }
 
   -- two ended runs, in whatever memory
   one-end : (m k : List ℕ) (w v : ℕ) → WorkersInRange w → WorkersInRange v → (ls ks : List ℕ) → ended (left p m w ls) ≡ true → ended (left p k v ks) ≡ true →
@@ -207,8 +227,7 @@ module _ (p : Plan) (valid : Valid p) where
   -- the demands hold of every valid plan
   pub demands : Demands p
   demands = record {
-    last = last p valid;
-    runs = as-demanded;
+    runs = λ m enough workers manned ls. shown m workers manned ls enough;
     same-end = one-end;
     one-worker = λ m. one-worker-accepted (ranged valid) (memory-sheet p valid m) .0;
     one-worker-stops = λ m. one-worker-accepted (ranged valid) (memory-sheet p valid m) .1;
