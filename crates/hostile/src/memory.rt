@@ -44,6 +44,25 @@ fn damaged_finish(name: &[u8], file: &[u8], at: usize, value: u16) {
     report::choice(name, with_number(run, at, value), 0);
 }
 
+// The run after its second choice: token 2 has finished pipe 0, and so 1 is ready.
+fn after_second(file: &[u8]) -> Run {
+    let run = after_first(file);
+    let first = run.state;
+    let mut mem = run.mem;
+    let chosen = engine::choose(first, &mut mem, Line(0));
+    let state = chosen.state;
+    Run {
+        state: state,
+        mem: mem,
+    }
+}
+
+// A ready token is taken, with one lent number changed.
+fn damaged_ready(name: &[u8], file: &[u8], at: usize, value: u16) {
+    let run = after_second(file);
+    report::choice(name, with_number(run, at, value), 1);
+}
+
 // A finish at pipe 0 with other ends of the ready queue and another length of the deferred table.
 fn counted_finish(name: &[u8], file: &[u8], first: u16, end: u16, held: u16) {
     let run = after_first(file);
@@ -134,6 +153,9 @@ pub fn run(file: &[u8]) {
     damaged_finish(b"deferred token N", file, 24576, 3);
     damaged_finish(b"deferred token 65535", file, 24577, 65535);
     damaged_finish(b"deferred token's record with count 17", file, 1, 17);
+    damaged_ready(b"ready token N", file, 28672, 3);
+    damaged_ready(b"ready token 65535", file, 28672, 65535);
+    damaged_ready(b"ready token as it is", file, 28672, 1);
     counted_finish(b"deferred table longer than N", file, 0, 0, 4096);
     counted_finish(b"ready queue full", file, 4096, 4096, 2);
     fallen(b"next line's counter at 0", file, 16);

@@ -13,5 +13,7 @@ pub mod Pigeonhole
 pub mod EveryLaws
 -- where a number stands in a list;
 pub mod Places
+-- lists of a function's first values;
+pub mod ListTables
 -- places go round the lines.
 pub mod Rotation

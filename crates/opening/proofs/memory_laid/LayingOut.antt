@@ -13,7 +13,7 @@ use lib.ListN.{length, getD, drop, set, length-append, length-set, replicate-app
 use lib.Seq.{sets, sets-eq, drop-at, set-append-left, getD-set-same, getD-set-other, ext-getD}
 use Rattle.rules.specs.Lists.{if, table}
 use Rattle.rules.proofs.lists.Tests.{by-test}
-use Rattle.rules.proofs.invariant.Counters.{getD-table, length-table}
+use Rattle.rules.proofs.lists.ListTables.{getD-table, length-table}
 use Rattle.plan.specs.Bytes.{fields, fieldBytes}
 use Rattle.plan.specs.Plan.{Record, ValidRecord, AscendingFrom, recordsBytes}
 use Rattle.rules.specs.Lists.{Every}

@@ -14,7 +14,7 @@ use lib.Seq.{take-at, getD-at, getD-append-add, drop-append-add}
 use Rattle.rules.specs.Lists.{table}
 use Rattle.rules.specs.PlainSheet.{numbersOf}
 use Rattle.rules.proofs.lists.Tests.{by-test}
-use Rattle.rules.proofs.invariant.Counters.{getD-table, length-table}
+use Rattle.rules.proofs.lists.ListTables.{getD-table, length-table}
 use Rattle.plan.specs.Plan.{Record, ValidRecord, total}
 use Rattle.rules.specs.Lists.{Every}
 use Rattle.tables.specs.declared.Numbers.{Numbers}

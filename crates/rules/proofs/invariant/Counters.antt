@@ -1,15 +1,16 @@
 -- The flat table of counters: line l, pipe p at 16 * l + p.
-use mathlib.Core.Path.{_≡_, refl, ap, _∙_}
+use mathlib.Core.Path.{_≡_, refl, _∙_}
 use mathlib.Core.List.{List}
-use Prim.Native.Nat.{ℕ, zero, suc, _+_, _-_, _*_, _/_, _%_, _<_}
+use Prim.Native.Nat.{ℕ, _+_, _-_, _*_, _/_, _%_, _<_}
 use native.Mathlib.Omega.{arith}
 use lib.Dec.{ltb}
 use lib.ListN.{length, getD, length-set}
 use lib.Seq.{getD-set-same, getD-set-other}
 use borrow.Author.Tests.{lt-ltb}
-use Rattle.rules.specs.Lists.{samePair, if, table}
+use Rattle.rules.specs.Lists.{samePair, if}
 use Rattle.rules.specs.Choices.{fall, tabled}
 use Rattle.rules.specs.RunState.{Pipeline}
+use Rattle.rules.proofs.lists.ListTables.{getD-table, length-table}
 use Rattle.rules.proofs.lists.Tests.{same, other, sameAs, lower, upper, below, same-pair, other-pair}
 
 -- an index is of one line and one pipe
@@ -41,18 +42,6 @@ fall-at c a b l p hb hp fits some = elim (sameAs (16 * l + p) (16 * a + b)) [
 pub length-fall : (c : List ℕ) (i : ℕ) → length (fall c i) ≡ length c
 unfolding fall
 length-fall c i = length-set c i (getD c i 0 - 1)
-
--- what a table holds, and how much
-pub getD-table : {A : Type 0} (n : ℕ) (f : ℕ → A) (i : ℕ) (d : A) → i < n → getD (table n f) i d ≡ f i
-unfolding table
-getD-table zero f i d h = absurd (omega arith)
-getD-table (suc n) f zero d h = refl
-getD-table (suc n) f (suc i) d h = getD-table n (λ j. f (suc j)) i d (omega arith)
-
-pub length-table : {A : Type 0} (n : ℕ) (f : ℕ → A) → length (table n f) ≡ n
-unfolding table
-length-table zero f = refl
-length-table (suc n) f = ap suc (length-table n (λ j. f (suc j)))
 
 module _ (plan : Pipeline) (f : ℕ → ℕ → ℕ) where
   pub length-tabled : length (tabled plan f) ≡ 512
