@@ -2,14 +2,14 @@
 use mathlib.Core.Path.{_≡_}
 use mathlib.Core.Logic.{_↔_}
 use mathlib.Core.Bool.{Bool, true, false}
-use mathlib.Core.List.{List, _∷_, _++_}
+use mathlib.Core.List.{List, [], _∷_, _++_}
 use Prim.Native.Nat.{ℕ, _+_, _*_, _%_, _≤_, _<_}
 use lib.ListN.{length, getD, take, drop}
 use Rattle.rules.specs.Lists.{has, times, Every}
 use Rattle.rules.specs.TakingTokens as rules
 use Rattle.rules.specs.RunState.{Machine}
 use Rattle.rules.specs.Choices.{Answer, Started, Finished, Stopped, Refused, opened, choose, answers, follow, ended}
-use Rattle.rules.specs.RelatedSources.{withSource}
+use Rattle.rules.specs.RelatedSources.{withSource, mapMachine}
 use Rattle.rules.specs.PlainSheet.{Row, rows, sheet, plainSource}
 use Rattle.rules.specs.Chains.{Blocked}
 use Rattle.rules.specs.WholeRuns.{WorkersInRange, Carries, ordered, accepted, startsOf, finishesOf, final}
@@ -17,7 +17,7 @@ use Rattle.rules.specs.WholeRuns.{events, end, withWorkers, oneWorker, Accepted
 use Rattle.plan.specs.Plan.{Plan}
 use Rattle.tables.specs.State.{State, openedTables, tableOf}
 use Rattle.tables.specs.Calls.{memorySource}
-use Rattle.tables.specs.Matching.{Match}
+use Rattle.tables.specs.Matching.{Match, beyond}
 use Rattle.opening.specs.Plans.{numbersIn, pipelineOf}
 use Rattle.opening.specs.Layout.{laidOut}
 
@@ -116,6 +116,9 @@ oneWorkerChoices p = oneWorker (pipelineOf p) 0 (length (order p))
 pub record Demands (p : Plan) : Type 0 where
   pub runs : (m : List ℕ) → 32768 ≤ length m → (workers : ℕ) → WorkersInRange workers → (ls : List ℕ) →
       Shows p workers m ls (told p m workers ls) (left p m workers ls) (ended (left p m workers ls))
+  -- what was in the first 32,768 lent numbers before the opening plays no part, at the end or before
+  pub whatever-lent : (m : List ℕ) (workers : ℕ) → WorkersInRange workers → (ls : List ℕ) →
+      left p m workers ls ≡ mapMachine (beyond (drop 32768 m)) (left p [] workers ls)
   -- two runs that have ended, with whatever memory, workers and choices, have left the same end state
   pub same-end : (m k : List ℕ) (w v : ℕ) → WorkersInRange w → WorkersInRange v → (ls ks : List ℕ) →
       ended (left p m w ls) ≡ true → ended (left p k v ks) ≡ true →

@@ -228,6 +228,7 @@ module _ (p : Plan) (valid : Valid p) where
   pub demands : Demands p
   demands = record {
     runs = λ m enough workers manned ls. shown m workers manned ls enough;
+    whatever-lent = kept-beyond;
     same-end = one-end;
     one-worker = λ m. one-worker-accepted (ranged valid) (memory-sheet p valid m) .0;
     one-worker-stops = λ m. one-worker-accepted (ranged valid) (memory-sheet p valid m) .1;
