@@ -1,41 +1,42 @@
 -- What the parts of a move answer, as the code has them.
+use mathlib.Core.Path.{_≡_}
 use mathlib.Core.Bool.{Bool, true, false, not}
 use mathlib.Core.List.{List, [], _∷_}
-use Prim.Native.Nat.{ℕ, _<_, _≤_}
+use Prim.Native.Nat.{ℕ, _+_, _-_}
 use lib.Dec.{eqb, ltb}
 use lib.ListN.{getD, set}
-use Rattle.rules.specs.Lists.{must, mustNot, all, every}
+use Rattle.rules.specs.Lists.{if, must, mustNot, all, every}
+use Rattle.rules.specs.declared.Line.{Line}
 use Rattle.rules.specs.declared.Slot.{Slot}
-use Rattle.rules.specs.RunState.{Machine, idle, counterAt, slotOf}
-use Rattle.rules.specs.Choices.{Chosen, Finished, next, moved, fall, withPlace}
+use Rattle.rules.specs.declared.answer.Answer.{Answer}
+use Rattle.rules.specs.RunState.{Machine, idle, waits, counterAt, slotOf, full}
+use Rattle.rules.specs.Choices.{Chosen, Finished, next, moved, withPlace, startFirst}
 use Rattle.rules.specs.Sources.{Taken, Spoiled, Nothing, Took}
-use Rattle.tables.specs.Calls.{safeTake}
+use Rattle.tables.specs.declared.Tables.{Tables}
+use Rattle.tables.specs.Calls.{memorySource, safeTake}
+use Rattle.engine.specs.Machines.{machineOf, chosenOf}
+use Rattle.engine.specs.Turns.{whole, turned}
 use Rattle.engine.specs.declared.State.{State}
-use Rattle.engine.specs.declared.finishing.Fallen.{Fallen}
-
--- a line's slot
-abbrev pub slotAt : State → ℕ → Slot
-slotAt s l = getD (s .slots) l idle
-
--- a line of the plan, at a pipe of the plan
-pub record Ready (s : State) (l : ℕ) : Type 0 where
-  pub lines : s .lines ≤ 32
-  pub pipes : s .pipes ≤ 16
-  pub line : l < s .lines
-  pub pipe : slotAt s l .pipe .0 < s .pipes
+use Rattle.engine.specs.declared.turn.Figures.{Figures}
+use Rattle.engine.specs.declared.turn.Cell.{Cell}
+use Rattle.engine.specs.declared.turn.Turn.{Turn}
+use Rattle.engine.specs.declared.finishing.Falls.{Falls}
 
 -- a line that cannot move: its numbers are within the tables, it waits, and its counter is above 0
-unfoldable pub isStill : State → ℕ → Bool
-isStill s l =
-    let slot : Slot = slotAt s l in
+unfoldable pub isStill : List ℕ → List Slot → ℕ → Bool
+isStill counters slots l =
+    let slot : Slot = getD slots l idle in
     all (
     ltb l 32 ∷ ltb (slot .pipe .0) 16 ∷ not (slot .running) ∷
-    not (eqb (getD (s .counters) (counterAt l (slot .pipe .0)) 0) 0) ∷ [])
+    not (eqb (getD counters (counterAt l (slot .pipe .0)) 0) 0) ∷ [])
 
 -- "The run has ended when it is marked stopped, no line runs and no waiting line has counter 0." For any state; of one in
 -- range it is the rules' `ended`.
-unfoldable pub endedOf : State → Bool
-endedOf s = must (s .stopped) false (every (s .lines) (isStill s))
+unfoldable pub overOf : Bool → ℕ → List ℕ → List Slot → Bool
+overOf stopped lines counters slots = must stopped false (every lines (isStill counters slots))
+
+abbrev pub endedOf : State → Bool
+endedOf s = overOf (s .stopped) (s .lines) (s .counters) (s .slots)
 
 -- whether a token was taken
 abbrev pub isTook : {X : Type 0} → Taken X → Bool
@@ -44,26 +45,33 @@ isTook (Nothing x) = false
 isTook (Took t x) = true
 
 -- whether taking would give a token that no place is left for: "14 if the step would take .. a number past its range"
-unfoldable pub overfullOf : State → List ℕ → Bool
-overfullOf s m = mustNot (ltb (s .placed) (s .tables .tokens)) false (isTook (safeTake (s .tables, m)))
-
--- a counter falls by one, if it has to: whether it could ("14 if the step would take a counter below 0"), and the counters
-unfoldable pub fallenOf : List ℕ → ℕ → Bool → Fallen
-fallenOf c i falls =
-    must falls (record { ok = true; counters = c })
-    (mustNot (eqb (getD c i 0) 0) (record { ok = false; counters = c })
-    (record { ok = true; counters = fall c i }))
+unfoldable pub overfullOf : Figures → List ℕ → Bool
+overfullOf f m = mustNot (ltb (f .placed) (f .tables .tokens)) false (isTook (safeTake (f .tables, m)))
 
 -- "If the pipe is serial, the counter of line (l+1) mod L at the same pipe falls by one. Then that of this line at pipe
--- (p+1) mod P falls by one": the first fall, and both
-unfoldable pub firstOf : State → ℕ → Slot → Fallen
-firstOf s l slot = fallenOf (s .counters) (counterAt (next (s .lines) l) (slot .pipe .0)) (getD (s .serial) (slot .pipe .0) false)
+-- (p+1) mod P falls by one", "14 if the step would take a counter below 0": by the places and values of the two counters
+unfoldable pub fallsOf : Bool → ℕ → ℕ → ℕ → ℕ → Falls
+fallsOf serial beside near ahead far =
+    let kept : Cell = record { at = ahead; value = far } in
+    let low : Falls = record { ok = false; first = kept; second = kept } in
+    let left : ℕ = if (eqb beside ahead) (near - 1) far in
+    if serial
+    (mustNot (eqb near 0) low
+    (mustNot (eqb left 0) low
+    (record { ok = true; first = record { at = beside; value = near - 1 }; second = record { at = ahead; value = left - 1 } })))
+    (mustNot (eqb far 0) low
+    (record { ok = true; first = kept; second = record { at = ahead; value = far - 1 } }))
 
-unfoldable pub bothOf : State → ℕ → Fallen
-bothOf s l =
-    let slot : Slot = slotAt s l in
-    must (firstOf s l slot .ok) (firstOf s l slot)
-    (fallenOf (firstOf s l slot .counters) (counterAt l (next (s .pipes) (slot .pipe .0))) true)
+-- the falls of a line's finish
+unfoldable pub bothOf : Figures → List ℕ → ℕ → Slot → Falls
+bothOf f counters l slot =
+    let beside : ℕ = counterAt (next (f .lines) l) (slot .pipe .0) in
+    let ahead : ℕ = counterAt l (next (f .pipes) (slot .pipe .0)) in
+    fallsOf (getD (f .serial) (slot .pipe .0) false) beside (getD counters beside 0) ahead (getD counters ahead 0)
+
+-- the counters after them
+abbrev pub fallen : List ℕ → Falls → List ℕ
+fallen counters x = set (set counters (x .first .at) (x .first .value)) (x .second .at) (x .second .value)
 
 -- a finish that leaves these counters and this source
 abbrev pub finishedOf : {X : Type 0} → Machine X → ℕ → List ℕ → X → Chosen X
@@ -73,3 +81,61 @@ finishedOf m l c x =
       answer = Finished l (s .pipe .0) (s .token .0) (s .place .0);
       machine = withPlace m c (set (m .slots) l (moved (m .pipes) s)) (m .placed) (m .stopped) x;
     }
+
+-- a finish, worked out
+abbrev pub settledTurn : Figures → Line → Slot → Falls → Tables → Turn
+settledTurn f line slot x t = Turn.Made (record {
+  answer = Answer.Finished (record { line = line; pipe = slot .pipe; token = slot .token; place = slot .place });
+  first = x .first;
+  second = x .second;
+  slot = moved (f .pipes) slot;
+  placed = f .placed;
+  stopped = f .stopped;
+  tables = t;
+})
+
+-- "The counter becomes full."
+abbrev pub refilled : Figures → ℕ → ℕ → Cell
+refilled f l p = record { at = counterAt l p; value = full (getD (f .serial) p false) }
+
+-- a start with a token that the line holds, one with a token that was taken, and a stop, worked out
+abbrev pub startedTurn : Figures → Line → Slot → Turn
+startedTurn f line slot = Turn.Made (record {
+  answer = Answer.Started (record { line = line; pipe = slot .pipe; token = slot .token; place = slot .place });
+  first = refilled f (line .0) (slot .pipe .0);
+  second = refilled f (line .0) (slot .pipe .0);
+  slot = record { pipe = slot .pipe; running = true; token = slot .token; place = slot .place };
+  placed = f .placed;
+  stopped = f .stopped;
+  tables = f .tables;
+})
+
+abbrev pub takenTurn : Figures → Line → ℕ → Tables → Turn
+takenTurn f line token t =
+    startedTurn (record {
+      pipes = f .pipes;
+      lines = f .lines;
+      workers = f .workers;
+      serial = f .serial;
+      placed = f .placed + 1;
+      stopped = f .stopped;
+      tables = t;
+    }) line (waits 0 token (f .placed))
+
+abbrev pub stoppedTurn : Figures → Line → Slot → Tables → Turn
+stoppedTurn f line slot t = Turn.Made (record {
+  answer = Answer.Stopped line;
+  first = refilled f (line .0) 0;
+  second = refilled f (line .0) 0;
+  slot = slot;
+  placed = f .placed;
+  stopped = true;
+  tables = t;
+})
+
+-- a turn is the start at pipe 0 with what the tables give, in every state with these figures where the line has this slot
+abbrev pub StartsFirst : Figures → List ℕ → ℕ → Slot → Turn → List ℕ → List ℕ → Type 0
+StartsFirst f counters l slot turn m m′ =
+    (slots : List Slot) → getD slots l idle ≡ slot →
+    chosenOf (turned (whole f counters slots) l turn) m′ ≡
+    startFirst memorySource (machineOf (whole f counters slots) m) l (safeTake (f .tables, m))

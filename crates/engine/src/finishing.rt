@@ -1,8 +1,9 @@
 // A running line finishes.
-use crate::Chosen;
-use crate::State;
 use crate::limits::COUNTERS_OF_LINE;
-use crate::refuse;
+use crate::turn::Cell;
+use crate::turn::Change;
+use crate::turn::Figures;
+use crate::turn::Turn;
 use rules::Answer;
 use rules::Line;
 use rules::Pipe;
@@ -14,40 +15,76 @@ use rules::Token;
 use tables::Released;
 use tables::Tables;
 ghost use mathlib.Core.Path.{_≡_};
-ghost use mathlib.Core.List.{List};
-ghost use Prim.Native.Nat.{ℕ, _<_};
+ghost use Prim.Native.Nat.{_-_, _<_, _≤_};
+ghost use lib.Dec.{eqb};
+ghost use Rattle.rules.specs.Lists.{if};
 ghost use Rattle.rules.specs.Choices.{next, moved as movedOf, finish as finishedBy};
 ghost use Rattle.tables.specs.Calls.{memorySource};
-ghost use Rattle.engine.specs.Machines.{machineOf, chosenOf};
-ghost use Rattle.engine.specs.Moves.{Ready, fallenOf, bothOf, finishedOf};
+ghost use Rattle.engine.specs.Turns.{Ready, Fits, Follows};
+ghost use Rattle.engine.specs.Moves.{fallsOf, bothOf, settledTurn};
 
-// Counters after a fall, or as they were where it would go below 0.
-pub struct Fallen {
+// The counters that fall, and whether they can: none goes below 0.
+pub struct Falls {
     pub ok: bool,
-    pub counters: [u8; 512],
+    pub first: Cell,
+    pub second: Cell,
 }
 
-// The counter at a place falls by one, if it has to.
-fn fall(counters: [u8; 512], at: usize, falls: bool) -> Fallen
-    requires { ⌜ at < 512 ⌝ }
-    ensures { λ r. ⌜ r ≡ fallenOf counters at falls ⌝ }
+// The counter ahead once the one beside has fallen: both may be one counter.
+fn left_ahead(beside: usize, near: u8, ahead: usize, far: u8) -> u8
+    requires { ⌜ 1 ≤ near ⌝ }
+    ensures { λ r. ⌜ r ≡ if (eqb beside ahead) (near - 1) far ⌝ }
 {
-    if falls {
-        let counter = counters[at];
-        if counter == 0 {
-            return Fallen {
-                ok: false,
-                counters,
-            };
+    if beside == ahead {
+        return near - 1;
+    }
+    far
+}
+
+// The counter beside falls if the pipe is serial, and then the one ahead.
+fn fall(serial: bool, beside: usize, near: u8, ahead: usize, far: u8) -> Falls
+    ensures { λ r. ⌜ r ≡ fallsOf serial beside near ahead far ⌝ }
+{
+    let kept = Cell {
+        at: ahead,
+        value: far,
+    };
+    let low = Falls {
+        ok: false,
+        first: kept,
+        second: kept,
+    };
+    if serial {
+        if near == 0 {
+            return low;
         }
-        let mut less = counters;
-        less[at] = counter - 1;
-        return Fallen {
+        let left = left_ahead(beside, near, ahead, far);
+        if left == 0 {
+            return low;
+        }
+        return Falls {
             ok: true,
-            counters: less,
+            first: Cell {
+                at: beside,
+                value: near - 1,
+            },
+            second: Cell {
+                at: ahead,
+                value: left - 1,
+            },
         };
     }
-    Fallen { ok: true, counters }
+    if far == 0 {
+        return low;
+    }
+    Falls {
+        ok: true,
+        first: kept,
+        second: Cell {
+            at: ahead,
+            value: far - 1,
+        },
+    }
 }
 
 // The number after, of so many: the first one follows the last.
@@ -86,70 +123,69 @@ fn moved(slot: Slot, pipes: u16) -> Slot
     }
 }
 
-// The counters after both falls of a line's finish.
-fn both_falls(s: State, l: u16) -> Fallen
-    requires { ⌜ Ready s l ⌝ }
-    ensures { λ r. ⌜ r ≡ bothOf s l ⌝ }
+// Both falls of a line's finish.
+fn both_falls(f: Figures, slot: Slot, counters: &[u8; 512], l: u16) -> Falls
+    requires { ⌜ Ready f slot l ⌝ }
+    ensures same { λ r. ⌜ r ≡ bothOf f (now (counters .entry)) l slot ⌝ }
+    ensures fits { λ r. ⌜ (r .first .at < 512) × (r .second .at < 512) ⌝ }
 {
-    let slot = s.slots[l as usize];
     let pipe = slot.pipe.0;
-    let flag = s.serial[pipe as usize];
-    let counters = s.counters;
-    let line_after = next_of(s.lines, l);
+    let flag = f.serial[pipe as usize];
+    let line_after = next_of(f.lines, l);
     let beside = COUNTERS_OF_LINE * (line_after as usize) + pipe as usize;
-    let first = fall(counters, beside, flag);
-    if first.ok {
-        let fallen = first.counters;
-        let pipe_after = next_of(s.pipes, pipe);
-        let ahead = COUNTERS_OF_LINE * (l as usize) + pipe_after as usize;
-        return fall(fallen, ahead, true);
-    }
-    first
+    let pipe_after = next_of(f.pipes, pipe);
+    let ahead = COUNTERS_OF_LINE * (l as usize) + pipe_after as usize;
+    fall(flag, beside, counters[beside], ahead, counters[ahead])
 }
 
-// The finish, with the counters and the tables that it leaves.
-fn settle(s: State, line: Line, counters: [u8; 512], t: Tables) -> Chosen
-    requires { ⌜ Ready s (line .0) ⌝ }
-    requires { ⌜ t .tokens ≡ s .tables .tokens ⌝ }
-    ensures { λ r. ⌜ ((m m′ : List ℕ) → chosenOf r m′ ≡ finishedOf (machineOf s m) (line .0) counters (t, m′)) ⌝ }
+// The finish, with the counters that fall and the tables that it leaves.
+fn settle(f: Figures, slot: Slot, line: Line, fallen: Falls, t: Tables) -> Turn
+    requires { ⌜ slot .pipe .0 < f .pipes ⌝ }
+    ensures { λ r. ⌜ r ≡ settledTurn f line slot fallen t ⌝ }
 {
-    let l = line.0 as usize;
-    let slot = s.slots[l];
     let pipe = slot.pipe;
     let token = slot.token;
     let place = slot.place;
-    let mut next = s;
-    next.counters = counters;
-    next.slots[l] = moved(slot, s.pipes);
-    next.tables = t;
-    Chosen {
+    let first = fallen.first;
+    let second = fallen.second;
+    Turn::Made(Change {
         answer: Answer::Finished(Step {
             line,
             pipe,
             token,
             place,
         }),
-        state: next,
-    }
+        first,
+        second,
+        slot: moved(slot, f.pipes),
+        placed: f.placed,
+        stopped: f.stopped,
+        tables: t,
+    })
 }
 
 // A finish: the counters fall, and at pipe 0 the tables are told.
-pub(crate) fn finish(s: State, mem: &mut [u16], line: Line) -> Chosen
-    requires { ⌜ Ready s (line .0) ⌝ }
-    ensures { λ r. ⌜ chosenOf r (now (mem .exit)) ≡ finishedBy memorySource (machineOf s (now (mem .entry))) (line .0) ⌝ }
+pub(crate) fn finish(
+    f: Figures,
+    slot: Slot,
+    counters: &[u8; 512],
+    mem: &mut [u16],
+    line: Line,
+) -> Turn
+    requires { ⌜ Ready f slot (line .0) ⌝ }
+    ensures fits { λ r. ⌜ Fits (line .0) r ⌝ }
+    ensures follows { λ r. ⌜ Follows (finishedBy memorySource) f (now (counters .entry)) (line .0) slot r (now (mem .entry)) (now (mem .exit)) ⌝ }
 {
-    let fallen = both_falls(s, line.0);
+    let fallen = both_falls(f, slot, counters, line.0);
     if !fallen.ok {
-        return refuse(s, Refusal::Spoiled);
+        return Turn::Refused(Refusal::Spoiled);
     }
-    let slot = s.slots[line.0 as usize];
-    let counters = fallen.counters;
-    let t = s.tables;
+    let t = f.tables;
     if slot.pipe.0 != 0 {
-        return settle(s, line, counters, t);
+        return settle(f, slot, line, fallen, t);
     }
     match tables::release(mem, t, slot.token.0) {
-        Released::Broken => refuse(s, Refusal::Spoiled),
-        Released::Passed(after) => settle(s, line, counters, after),
+        Released::Broken => Turn::Refused(Refusal::Spoiled),
+        Released::Passed(after) => settle(f, slot, line, fallen, after),
     }
 }

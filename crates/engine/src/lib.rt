@@ -6,6 +6,7 @@ mod limits;
 mod ranges;
 mod running;
 mod starting;
+mod turn;
 
 pub use beginning::Opened;
 pub use beginning::Opening;
@@ -15,15 +16,20 @@ use rules::Line;
 use rules::Refusal;
 use rules::Slot;
 use tables::Tables;
+use turn::Figures;
+use turn::Turn;
 ghost use mathlib.Core.Path.{_≡_};
 ghost use mathlib.Core.Bool.{true};
 ghost use mathlib.Core.List.{List};
 ghost use Prim.Native.Nat.{ℕ};
+ghost use lib.ListN.{getD};
+ghost use Rattle.rules.specs.RunState.{idle};
 ghost use Rattle.rules.specs.Ranges.{sound as soundBy};
 ghost use Rattle.rules.specs.Choices.{ended as endedBy, choose as chosenBy, move as movedBy};
 ghost use Rattle.tables.specs.Calls.{memorySource};
-ghost use Rattle.engine.specs.Machines.{machineOf, refusedBy, chosenOf};
-ghost use Rattle.engine.specs.Moves.{Ready, endedOf};
+ghost use Rattle.engine.specs.Machines.{machineOf, chosenOf};
+ghost use Rattle.engine.specs.Moves.{endedOf};
+ghost use Rattle.engine.specs.Turns.{whole, turned, Ready, Fits};
 
 // The state of a run: P, L, W, which pipes are serial, the join counters (16 to a line), what each line does, how many
 // tokens have a place, whether the run is marked stopped, and the numbers of the token tables, N among them.
@@ -45,60 +51,98 @@ pub struct Chosen {
     pub state: State,
 }
 
-// A choice that is turned down leaves the state as it was.
-pub(crate) fn refuse(s: State, why: Refusal) -> Chosen
-    ensures { λ r. ⌜ r ≡ refusedBy s why ⌝ }
-{
-    Chosen {
-        answer: Answer::Refused(why),
-        state: s,
-    }
-}
-
 // Whether the run has ended; no where a line or a pipe lies outside the tables.
 pub fn ended(s: State) -> bool
     ensures answer { λ r. ⌜ r ≡ endedOf s ⌝ }
     ensures rules { λ r. ⌜ ((m : List ℕ) → soundBy memorySource (machineOf s m) ≡ true → r ≡ endedBy (machineOf s m)) ⌝ }
 {
-    if s.stopped {
-        return running::all_still(s);
-    }
-    false
+    let slots = s.slots;
+    running::is_over(s.stopped, s.lines, slots, &s.counters)
 }
 
 // A choice of a line below L, in a run that has not ended.
-fn move_line(s: State, mem: &mut [u16], line: Line) -> Chosen
-    requires { ⌜ Ready s (line .0) ⌝ }
-    ensures { λ r. ⌜ chosenOf r (now (mem .exit)) ≡ movedBy memorySource (machineOf s (now (mem .entry))) (line .0) ⌝ }
+fn move_line(
+    f: Figures,
+    slots: [Slot; 32],
+    counters: &[u8; 512],
+    mem: &mut [u16],
+    line: Line,
+) -> Turn
+    requires { ⌜ Ready f (getD slots (line .0) idle) (line .0) ⌝ }
+    ensures fits { λ r. ⌜ Fits (line .0) r ⌝ }
+    ensures moves { λ r. ⌜ chosenOf (turned (whole f (now (counters .entry)) slots) (line .0) r) (now (mem .exit)) ≡
+        movedBy memorySource (machineOf (whole f (now (counters .entry)) slots) (now (mem .entry))) (line .0) ⌝ }
 {
     let l = line.0 as usize;
-    let slot = s.slots[l];
+    let slot = slots[l];
     if slot.running {
-        return finishing::finish(s, mem, line);
+        return finishing::finish(f, slot, counters, mem, line);
     }
     let at = limits::COUNTERS_OF_LINE * l + slot.pipe.0 as usize;
-    if s.counters[at] != 0 {
-        return refuse(s, Refusal::Early);
+    if counters[at] != 0 {
+        return Turn::Refused(Refusal::Early);
     }
-    let slots = s.slots;
-    if s.workers <= running::count_running(slots, s.lines) {
-        return refuse(s, Refusal::Crowded);
+    if f.workers <= running::count_running(slots, f.lines) {
+        return Turn::Refused(Refusal::Crowded);
     }
-    starting::start(s, mem, line)
+    starting::start(f, slot, mem, line)
+}
+
+// A choice, worked out.
+fn turn_of(f: Figures, slots: [Slot; 32], counters: &[u8; 512], mem: &mut [u16], line: Line) -> Turn
+    ensures fits { λ r. ⌜ Fits (line .0) r ⌝ }
+    ensures chooses { λ r. ⌜ chosenOf (turned (whole f (now (counters .entry)) slots) (line .0) r) (now (mem .exit)) ≡
+        chosenBy memorySource (machineOf (whole f (now (counters .entry)) slots) (now (mem .entry))) (line .0) ⌝ }
+{
+    if !ranges::sound(f, slots, counters, mem) {
+        return Turn::Refused(Refusal::Spoiled);
+    }
+    if f.lines <= line.0 {
+        return Turn::Refused(Refusal::NoLine);
+    }
+    if running::is_over(f.stopped, f.lines, slots, counters) {
+        return Turn::Refused(Refusal::Ended);
+    }
+    move_line(f, slots, counters, mem, line)
 }
 
 // A choice names a line: it starts, finishes or stops, or the choice is refused.
-pub fn choose(s: State, mem: &mut [u16], line: Line) -> Chosen
+pub fn choose(mut s: State, mem: &mut [u16], line: Line) -> Chosen
     ensures { λ r. ⌜ chosenOf r (now (mem .exit)) ≡ chosenBy memorySource (machineOf s (now (mem .entry))) (line .0) ⌝ }
 {
-    if !ranges::sound(s, mem) {
-        return refuse(s, Refusal::Spoiled);
+    let serial = s.serial;
+    let slots = s.slots;
+    let t = s.tables;
+    let f = Figures {
+        pipes: s.pipes,
+        lines: s.lines,
+        workers: s.workers,
+        serial,
+        placed: s.placed,
+        stopped: s.stopped,
+        tables: t,
+    };
+    let turn = turn_of(f, slots, &s.counters, mem, line);
+    match turn {
+        Turn::Refused(why) => Chosen {
+            answer: Answer::Refused(why),
+            state: s,
+        },
+        Turn::Made(change) => {
+            let first = change.first;
+            let second = change.second;
+            let slot = change.slot;
+            let after = change.tables;
+            let answer = change.answer;
+            let a = first.at;
+            let b = second.at;
+            s.counters[a] = first.value;
+            s.counters[b] = second.value;
+            s.slots[line.0 as usize] = slot;
+            s.placed = change.placed;
+            s.stopped = change.stopped;
+            s.tables = after;
+            Chosen { answer, state: s }
+        }
     }
-    if s.lines <= line.0 {
-        return refuse(s, Refusal::NoLine);
-    }
-    if ended(s) {
-        return refuse(s, Refusal::Ended);
-    }
-    move_line(s, mem, line)
 }

@@ -1,8 +1,9 @@
 // A waiting line with counter 0 starts, or stops.
-use crate::Chosen;
-use crate::State;
 use crate::limits::COUNTERS_OF_LINE;
-use crate::refuse;
+use crate::turn::Cell;
+use crate::turn::Change;
+use crate::turn::Figures;
+use crate::turn::Turn;
 use rules::Answer;
 use rules::Line;
 use rules::Pipe;
@@ -17,101 +18,101 @@ use tables::Tables;
 use tables::Taken;
 ghost use mathlib.Core.Path.{_≡_};
 ghost use mathlib.Core.List.{List};
-ghost use Prim.Native.Nat.{ℕ, _<_, _+_, _*_};
-ghost use Rattle.rules.specs.Sources.{Nothing, Took};
-ghost use Rattle.rules.specs.Choices.{filled, start as startedBy, startFirst, startLater};
-ghost use Rattle.tables.specs.Calls.{memorySource, safeTake};
-ghost use Rattle.engine.specs.Machines.{machineOf, chosenOf};
-ghost use Rattle.engine.specs.Moves.{Ready, overfullOf};
+ghost use Prim.Native.Nat.{ℕ, _<_};
+ghost use Rattle.rules.specs.Choices.{start as startedBy};
+ghost use Rattle.tables.specs.Calls.{memorySource};
+ghost use Rattle.engine.specs.Turns.{Ready, Fits, Follows};
+ghost use Rattle.engine.specs.Moves.{overfullOf, refilled, startedTurn, takenTurn, stoppedTurn, StartsFirst};
 
-// The counters with that of a line and pipe full again.
-fn refill(s: State, l: usize, p: usize) -> [u8; 512]
+// The counter of a line and pipe, full again.
+fn refill(f: Figures, l: usize, p: usize) -> Cell
     requires { ⌜ (l < 32) × (p < 16) ⌝ }
-    ensures { λ r. ⌜ ((m : List ℕ) → r ≡ filled (machineOf s m) l p) ⌝ }
+    ensures { λ r. ⌜ r ≡ refilled f l p ⌝ }
 {
-    let flag = s.serial[p];
+    let flag = f.serial[p];
     let at = COUNTERS_OF_LINE * l + p;
-    let mut counters = s.counters;
     let kind = PipeKind::from_flag(flag);
-    counters[at] = kind.full();
-    counters
+    Cell {
+        at,
+        value: kind.full(),
+    }
 }
 
 // The line starts the pipe of this slot, with its token and place.
-fn start_at(s: State, line: Line, slot: Slot) -> Chosen
+fn start_at(f: Figures, line: Line, slot: Slot) -> Turn
     requires { ⌜ (line .0 < 32) × (slot .pipe .0 < 16) ⌝ }
-    ensures { λ r. ⌜ ((m : List ℕ) → chosenOf r m ≡ startLater memorySource (machineOf s m) (line .0) slot) ⌝ }
+    ensures { λ r. ⌜ r ≡ startedTurn f line slot ⌝ }
 {
-    let l = line.0 as usize;
     let pipe = slot.pipe;
     let token = slot.token;
     let place = slot.place;
-    let counters = refill(s, l, slot.pipe.0 as usize);
-    let mut next = s;
-    next.counters = counters;
-    next.slots[l] = Slot {
-        pipe,
-        running: true,
-        token,
-        place,
-    };
-    Chosen {
+    let full = refill(f, line.0 as usize, slot.pipe.0 as usize);
+    let t = f.tables;
+    Turn::Made(Change {
         answer: Answer::Started(Step {
             line,
             pipe,
             token,
             place,
         }),
-        state: next,
-    }
+        first: full,
+        second: full,
+        slot: Slot {
+            pipe,
+            running: true,
+            token,
+            place,
+        },
+        placed: f.placed,
+        stopped: f.stopped,
+        tables: t,
+    })
 }
 
 // A start at pipe 0 with a token that was taken, and the tables after it.
-fn start_with(s: State, line: Line, token: u16, t: Tables) -> Chosen
-    requires { ⌜ Ready s (line .0) ⌝ }
-    requires { ⌜ (t .tokens ≡ s .tables .tokens) × (s .placed < s .tables .tokens) ⌝ }
-    ensures { λ r. ⌜ ((m m′ : List ℕ) → chosenOf r m′ ≡ startFirst memorySource (machineOf s m) (line .0) (Took token (t, m′))) ⌝ }
+fn start_with(f: Figures, line: Line, token: u16, t: Tables) -> Turn
+    requires { ⌜ (line .0 < 32) × (f .placed < f .tables .tokens) ⌝ }
+    ensures { λ r. ⌜ r ≡ takenTurn f line token t ⌝ }
 {
     let token = Token(token);
-    let place = Place(s.placed);
+    let place = Place(f.placed);
     let slot = Slot {
         pipe: Pipe(0),
         running: false,
         token,
         place,
     };
-    let mut next = s;
-    next.placed = s.placed + 1;
+    let mut next = f;
+    next.placed = f.placed + 1;
     next.tables = t;
     start_at(next, line, slot)
 }
 
 // A stop: no token is left.
-fn stop(s: State, line: Line, t: Tables) -> Chosen
-    requires { ⌜ Ready s (line .0) ⌝ }
-    requires { ⌜ t .tokens ≡ s .tables .tokens ⌝ }
-    ensures { λ r. ⌜ ((m m′ : List ℕ) → chosenOf r m′ ≡ startFirst memorySource (machineOf s m) (line .0) (Nothing (t, m′))) ⌝ }
+fn stop(f: Figures, slot: Slot, line: Line, t: Tables) -> Turn
+    requires { ⌜ line .0 < 32 ⌝ }
+    ensures { λ r. ⌜ r ≡ stoppedTurn f line slot t ⌝ }
 {
-    let l = line.0 as usize;
-    let counters = refill(s, l, 0);
-    let mut next = s;
-    next.counters = counters;
-    next.stopped = true;
-    next.tables = t;
-    Chosen {
+    let full = refill(f, line.0 as usize, 0);
+    Turn::Made(Change {
         answer: Answer::Stopped(line),
-        state: next,
-    }
+        first: full,
+        second: full,
+        slot,
+        placed: f.placed,
+        stopped: true,
+        tables: t,
+    })
 }
 
 // Whether taking would give a token that no place is left for.
-fn overfull(s: State, mem: &[u16]) -> bool
-    ensures { λ r. ⌜ r ≡ overfullOf s (now (mem .entry)) ⌝ }
+fn overfull(f: Figures, mem: &[u16]) -> bool
+    ensures { λ r. ⌜ r ≡ overfullOf f (now (mem .entry)) ⌝ }
 {
-    if s.placed < s.tables.tokens {
+    if f.placed < f.tables.tokens {
         return false;
     }
-    let t = s.tables;
+    let t = f.tables;
     match tables::would_take(mem, t) {
         Offer::Spoiled => false,
         Offer::Nothing => false,
@@ -120,31 +121,30 @@ fn overfull(s: State, mem: &[u16]) -> bool
 }
 
 // A start at pipe 0: a token is taken, or there is none.
-fn start_first(s: State, mem: &mut [u16], line: Line) -> Chosen
-    requires { ⌜ Ready s (line .0) ⌝ }
-    ensures { λ r. ⌜ chosenOf r (now (mem .exit)) ≡
-        startFirst memorySource (machineOf s (now (mem .entry))) (line .0) (safeTake (s .tables, now (mem .entry))) ⌝ }
+fn start_first(f: Figures, slot: Slot, mem: &mut [u16], line: Line) -> Turn
+    requires { ⌜ Ready f slot (line .0) ⌝ }
+    ensures fits { λ r. ⌜ Fits (line .0) r ⌝ }
+    ensures starts { λ r. ⌜ ((counters : List ℕ) → StartsFirst f counters (line .0) slot r (now (mem .entry)) (now (mem .exit))) ⌝ }
 {
-    if overfull(s, mem) {
-        return refuse(s, Refusal::Spoiled);
+    if overfull(f, mem) {
+        return Turn::Refused(Refusal::Spoiled);
     }
-    let t = s.tables;
+    let t = f.tables;
     match tables::take(mem, t) {
-        Taken::Spoiled => refuse(s, Refusal::Spoiled),
-        Taken::Nothing(after) => stop(s, line, after),
-        Taken::Took(token, after) => start_with(s, line, token, after),
+        Taken::Spoiled => Turn::Refused(Refusal::Spoiled),
+        Taken::Nothing(after) => stop(f, slot, line, after),
+        Taken::Took(token, after) => start_with(f, line, token, after),
     }
 }
 
 // A start.
-pub(crate) fn start(s: State, mem: &mut [u16], line: Line) -> Chosen
-    requires { ⌜ Ready s (line .0) ⌝ }
-    ensures { λ r. ⌜ chosenOf r (now (mem .exit)) ≡ startedBy memorySource (machineOf s (now (mem .entry))) (line .0) ⌝ }
+pub(crate) fn start(f: Figures, slot: Slot, mem: &mut [u16], line: Line) -> Turn
+    requires { ⌜ Ready f slot (line .0) ⌝ }
+    ensures fits { λ r. ⌜ Fits (line .0) r ⌝ }
+    ensures follows { λ r. ⌜ ((counters : List ℕ) → Follows (startedBy memorySource) f counters (line .0) slot r (now (mem .entry)) (now (mem .exit))) ⌝ }
 {
-    let l = line.0 as usize;
-    let slot = s.slots[l];
     if slot.pipe.0 == 0 {
-        return start_first(s, mem, line);
+        return start_first(f, slot, mem, line);
     }
-    start_at(s, line, slot)
+    start_at(f, line, slot)
 }

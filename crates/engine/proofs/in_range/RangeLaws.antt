@@ -1,67 +1,112 @@
 -- The ranges of a state, where the other tests have passed.
-use mathlib.Core.Path.{_≡_, refl, sym, _∙_}
+use mathlib.Core.Path.{_≡_, refl, sym, ap, _∙_}
 use mathlib.Core.Bool.{Bool, true, false}
-use mathlib.Core.List.{List, []}
+use mathlib.Core.List.{List, [], _∷_, _++_}
 use Prim.Native.Nat.{ℕ, _≤_}
-use borrow.Author.Tests.{le-leb}
+use borrow.Author.Tests.{leb-true}
+use lib.Dec.{leb}
 use lib.ListN.{getD}
-use Rattle.rules.specs.Lists.{if, every}
+use Rattle.rules.specs.Lists.{if, all, every, within}
 use Rattle.rules.specs.Ranges.{sound, numbersSound, serialSound, slotSound, counterSound}
-use Rattle.rules.specs.Lists.{within}
-use Rattle.tables.specs.State.{soundOf}
+use Rattle.rules.specs.RunState.{Machine}
+use Rattle.rules.specs.declared.Slot.{Slot}
+use Rattle.rules.proofs.lists.Tests.{if-same, if-eta}
+use Rattle.tables.specs.State as tables
 use Rattle.tables.specs.Calls.{memorySource}
-use Rattle.engine.specs.declared.State.{State}
+use Rattle.engine.specs.declared.turn.Figures.{Figures}
 use Rattle.engine.specs.Machines.{machineOf}
+use Rattle.engine.specs.Turns.{whole}
+use Rattle.engine.specs.RangeParts.{figuresSound}
+use Rattle.engine.proofs.in_range.Rows.{first-holds, rest-hold}
 
--- a test that decides alone
-self : (v : Bool) → v ≡ if v true false
-self true = refl
-self false = refl
+-- single numbers that are in range
+module _ (f : Figures) (ok : figuresSound f ≡ true) where
+  pipes-ok : within 1 16 (f .pipes) ≡ true
+  unfolding figuresSound
+  pipes-ok = first-holds (within 1 16 (f .pipes)) _ ok
 
--- the single numbers: whether pipe 0 is serial decides
-module _ (s : State) (a : 1 ≤ s .pipes) (b : s .pipes ≤ 16) (c : 1 ≤ s .lines) (d : s .lines ≤ 32) (e : s .tables .tokens ≤ 4096)
-    (f : 1 ≤ s .workers) (g : s .workers ≤ 32) (h : s .placed ≤ s .tables .tokens) where
-  pub numbers-last : (v : Bool) → getD (s .serial) 0 false ≡ v → v ≡ numbersSound (machineOf s [])
-  unfolding numbersSound within machineOf
-  numbers-last v t =
-      rw (
-        le-leb 1 (s .pipes) a,
-        le-leb (s .pipes) 16 b,
-        le-leb 1 (s .lines) c,
-        le-leb (s .lines) 32 d,
-        le-leb (s .tables .tokens) 4096 e,
-        le-leb 1 (s .workers) f,
-        le-leb (s .workers) 32 g,
-        le-leb (s .placed) (s .tables .tokens) h,
-        t,
-      ) (self v)
+  pub pipes-some : 1 ≤ f .pipes
+  unfolding within
+  pipes-some = leb-true 1 (f .pipes) (first-holds (leb 1 (f .pipes)) _ pipes-ok)
 
--- all ranges, test by test: the first that fails decides
-module _ (s : State) (mem : List ℕ) {n : Bool} (n-is : n ≡ numbersSound (machineOf s [])) where
-  -- the single numbers do not depend on the memory
-  numbers-here : n ≡ numbersSound (machineOf s mem)
-  unfolding numbersSound machineOf
-  numbers-here = n-is
+  pub pipes-most : f .pipes ≤ 16
+  unfolding within
+  pipes-most = leb-true (f .pipes) 16 (first-holds (leb (f .pipes) 16) _ (rest-hold (leb 1 (f .pipes)) _ pipes-ok))
 
-  pub numbers-fail : n ≡ false → false ≡ sound memorySource (machineOf s mem)
-  unfolding sound
-  numbers-fail e = rw (sym numbers-here ∙ e)
+  pub lines-most : f .lines ≤ 32
+  unfolding figuresSound within
+  lines-most =
+      leb-true (f .lines) 32 (first-holds (leb (f .lines) 32) _ (rest-hold (leb 1 (f .lines)) _
+      (first-holds (within 1 32 (f .lines)) _ (rest-hold (within 1 16 (f .pipes)) _ ok))))
 
-  module _ (a : n ≡ true) {f : Bool} (f-is : f ≡ every 16 (serialSound (s .pipes) (s .serial))) where
-    pub flags-fail : f ≡ false → false ≡ sound memorySource (machineOf s mem)
-    unfolding sound machineOf
-    flags-fail e = rw (sym numbers-here ∙ a, sym f-is ∙ e)
+-- the last of some tests
+all-last : (l : List Bool) (b : Bool) → all (l ++ (b ∷ [])) ≡ if (all l) b false
+all-last [] b = if-eta b
+all-last (true ∷ l) b = all-last l b
+all-last (false ∷ l) b = refl
 
-    module _ (b : f ≡ true) {l : Bool} (l-is : l ≡ every 32 (slotSound (s .pipes) (s .lines) (s .tables .tokens) (s .slots))) where
-      pub slots-fail : l ≡ false → false ≡ sound memorySource (machineOf s mem)
-      unfolding sound machineOf
-      slots-fail e = rw (sym numbers-here ∙ a, sym f-is ∙ b, sym l-is ∙ e)
+-- the order of the tests is no matter: the first flag after the counters, and these before the slots
+reorder : (n first flags counters slots rest : Bool) →
+    all (if n first false ∷ flags ∷ slots ∷ counters ∷ rest ∷ []) ≡ all (n ∷ flags ∷ counters ∷ slots ∷ first ∷ rest ∷ [])
+reorder false first flags counters slots rest = refl
+reorder true first false counters slots rest = if-same first false
+reorder true first true true true rest = refl
+reorder true first true false true rest = if-same first false
+reorder true first true true false rest = if-same first false
+reorder true first true false false rest = if-same first false
 
-      module _ (c : l ≡ true) {k : Bool} (k-is : k ≡ every 512 (counterSound (s .pipes) (s .lines) (s .serial) (s .counters))) where
-        pub counters-fail : k ≡ false → false ≡ sound memorySource (machineOf s mem)
-        unfolding sound machineOf
-        counters-fail e = rw (sym numbers-here ∙ a, sym f-is ∙ b, sym l-is ∙ c, sym k-is ∙ e)
+module _ (f : Figures) (counters : List ℕ) (slots : List Slot) (mem : List ℕ) where
+  abbrev machine : Machine tables.State
+  machine = machineOf (whole f counters slots) mem
 
-        pub tables-last : {t : Bool} (v : Bool) → k ≡ true → t ≡ soundOf (s .tables, mem) → t ≡ v → v ≡ sound memorySource (machineOf s mem)
-        unfolding sound machineOf
-        tables-last v d t-is e = rw (sym numbers-here ∙ a, sym f-is ∙ b, sym l-is ∙ c, sym k-is ∙ d, sym t-is ∙ e) (self v)
+  pub numbers-are : numbersSound machine ≡ if (figuresSound f) (getD (f .serial) 0 false) false
+  unfolding numbersSound figuresSound machineOf
+  numbers-are =
+      all-last (within 1 16 (f .pipes) ∷ within 1 32 (f .lines) ∷ leb (f .tables .tokens) 4096 ∷ within 1 32 (f .workers) ∷
+      leb (f .placed) (f .tables .tokens) ∷ []) (getD (f .serial) 0 false)
+
+  -- the tests in the code's order
+  abbrev flagsOk : Bool
+  flagsOk = every 16 (serialSound (f .pipes) (f .serial))
+
+  abbrev countersOk : Bool
+  countersOk = every 512 (counterSound (f .pipes) (f .lines) (f .serial) counters)
+
+  abbrev slotsOk : Bool
+  slotsOk = every 32 (slotSound (f .pipes) (f .lines) (f .tables .tokens) slots)
+
+  abbrev firstOk : Bool
+  firstOk = getD (f .serial) 0 false
+
+  abbrev tablesOk : Bool
+  tablesOk = tables.soundOf (f .tables, mem)
+
+  in-order : sound memorySource machine ≡ all (figuresSound f ∷ flagsOk ∷ countersOk ∷ slotsOk ∷ firstOk ∷ tablesOk ∷ [])
+  unfolding sound machineOf
+  in-order =
+      ap (λ b. all (b ∷ flagsOk ∷ slotsOk ∷ countersOk ∷ tablesOk ∷ [])) numbers-are ∙
+      reorder (figuresSound f) firstOk flagsOk countersOk slotsOk tablesOk
+
+  -- the first test that fails decides
+  module _ {n : Bool} (n-is : n ≡ figuresSound f) where
+    pub numbers-fail : n ≡ false → false ≡ sound memorySource machine
+    numbers-fail e = rw (in-order, sym n-is ∙ e)
+
+    module _ (a : n ≡ true) {g : Bool} (g-is : g ≡ flagsOk) where
+      pub flags-fail : g ≡ false → false ≡ sound memorySource machine
+      flags-fail e = rw (in-order, sym n-is ∙ a, sym g-is ∙ e)
+
+      module _ (b : g ≡ true) {k : Bool} (k-is : k ≡ countersOk) where
+        pub counters-fail : k ≡ false → false ≡ sound memorySource machine
+        counters-fail e = rw (in-order, sym n-is ∙ a, sym g-is ∙ b, sym k-is ∙ e)
+
+        module _ (c : k ≡ true) {l : Bool} (l-is : l ≡ slotsOk) where
+          pub slots-fail : l ≡ false → false ≡ sound memorySource machine
+          slots-fail e = rw (in-order, sym n-is ∙ a, sym g-is ∙ b, sym k-is ∙ c, sym l-is ∙ e)
+
+          module _ (d : l ≡ true) where
+            pub first-fails : firstOk ≡ false → false ≡ sound memorySource machine
+            first-fails e = rw (in-order, sym n-is ∙ a, sym g-is ∙ b, sym k-is ∙ c, sym l-is ∙ d, e)
+
+            pub tables-last : {t : Bool} → firstOk ≡ true → t ≡ tablesOk → t ≡ sound memorySource machine
+            tables-last e t-is = rw (in-order, sym n-is ∙ a, sym g-is ∙ b, sym k-is ∙ c, sym l-is ∙ d, e) (t-is ∙ sym (if-eta _))

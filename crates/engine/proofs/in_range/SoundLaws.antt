@@ -1,34 +1,46 @@
 -- What a state within its ranges is like.
-use mathlib.Core.Path.{_≡_, refl, ap, _∙_}
+use mathlib.Core.Path.{_≡_, refl, sym, ap, _∙_}
 use mathlib.Core.Bool.{Bool, true, false, not}
 use mathlib.Core.List.{List}
 use mathlib.Core.Logic.{by-cases}
 use Prim.Native.Nat.{ℕ, zero, suc, _+_, _*_, _<_, _≤_}
 use native.Mathlib.Omega.{arith}
 use native.Mathlib.Decide.{ℕ-discrete}
-use borrow.Author.Tests.{leb-true, ltb-true, eqb-true, lt-ltb}
-use lib.Dec.{leb, ltb, eqb}
+use borrow.Author.Tests.{ltb-true, eqb-true, lt-ltb}
+use lib.Dec.{ltb, eqb}
 use lib.ListN.{getD}
 use Rattle.rules.specs.Lists.{if, every}
 use Rattle.rules.specs.declared.Slot.{Slot}
 use Rattle.rules.specs.RunState.{idle}
 use Rattle.rules.specs.Choices.{movable, ended}
-use Rattle.rules.specs.Lists.{within}
 use Rattle.rules.specs.Ranges.{isIdle, isLoaded, slotSound, serialSound, numbersSound, sound}
 use Rattle.tables.specs.Calls.{memorySource}
 use Rattle.engine.specs.declared.State.{State}
+use Rattle.engine.specs.declared.turn.Figures.{Figures}
+use Rattle.engine.specs.RangeParts.{figuresSound}
 use Rattle.engine.specs.Machines.{machineOf}
-use Rattle.engine.specs.Moves.{Ready, slotAt, isStill, endedOf}
+use Rattle.engine.specs.Moves.{isStill, overOf, endedOf}
+use Rattle.engine.specs.Turns.{whole, Ready}
 use Rattle.rules.proofs.lists.Tests.{by-test}
+use Rattle.engine.proofs.in_range.Rows.{first-holds, rest-hold}
+use Rattle.engine.proofs.in_range.RangeLaws as figures
+use Rattle.engine.proofs.in_range.RangeLaws.{numbers-are}
 
--- one test of a list, and the others
-first-holds : (b x : Bool) → if b x false ≡ true → b ≡ true
-first-holds true x e = refl
-first-holds false x e = let z : _≡_ {A = ℕ} 0 1 = cc in absurd (omega arith)
+-- a state but for its counters and slots
+abbrev figuresOf : State → Figures
+figuresOf s = record {
+  pipes = s .pipes;
+  lines = s .lines;
+  workers = s .workers;
+  serial = s .serial;
+  placed = s .placed;
+  stopped = s .stopped;
+  tables = s .tables;
+}
 
-rest-hold : (b x : Bool) → if b x false ≡ true → x ≡ true
-rest-hold true x e = e
-rest-hold false x e = let z : _≡_ {A = ℕ} 0 1 = cc in absurd (omega arith)
+-- a line's slot
+abbrev slotAt : State → ℕ → Slot
+slotAt s l = getD (s .slots) l idle
 
 -- a test of each number below n holds of one of them
 every-at : (n i : ℕ) (f : ℕ → Bool) → i < n → every n f ≡ true → f i ≡ true
@@ -60,20 +72,17 @@ module _ (s : State) (mem : List ℕ) (ok : sound memorySource (machineOf s mem)
       first-holds (every 32 (slotSound (s .pipes) (s .lines) (s .tables .tokens) (s .slots))) _
       (rest-hold (every 16 (serialSound (s .pipes) (s .serial))) _ (rest-hold (numbersSound (machineOf s mem)) _ ok))
 
+  figures-ok : figuresSound (figuresOf s) ≡ true
+  figures-ok = first-holds (figuresSound (figuresOf s)) _ (sym (numbers-are (figuresOf s) (s .counters) (s .slots) mem) ∙ numbers-ok)
+
   pipes-some : 1 ≤ s .pipes
-  unfolding numbersSound within machineOf
-  pipes-some = leb-true 1 (s .pipes) (first-holds (leb 1 (s .pipes)) _ (first-holds (within 1 16 (s .pipes)) _ numbers-ok))
+  pipes-some = figures.pipes-some (figuresOf s) figures-ok
 
   pipes-most : s .pipes ≤ 16
-  unfolding numbersSound within machineOf
-  pipes-most =
-      leb-true (s .pipes) 16 (first-holds (leb (s .pipes) 16) _ (rest-hold (leb 1 (s .pipes)) _ (first-holds (within 1 16 (s .pipes)) _ numbers-ok)))
+  pipes-most = figures.pipes-most (figuresOf s) figures-ok
 
   pub lines-most : s .lines ≤ 32
-  unfolding numbersSound within machineOf
-  lines-most =
-      leb-true (s .lines) 32 (first-holds (leb (s .lines) 32) _ (rest-hold (leb 1 (s .lines)) _
-      (first-holds (within 1 32 (s .lines)) _ (rest-hold (within 1 16 (s .pipes)) _ numbers-ok))))
+  lines-most = figures.lines-most (figuresOf s) figures-ok
 
   -- each line is at a pipe of the plan
   pipe-less : (l : ℕ) → l < 32 → slotAt s l .pipe .0 < s .pipes
@@ -86,12 +95,8 @@ module _ (s : State) (mem : List ℕ) (ok : sound memorySource (machineOf s mem)
       (λ i. loaded-pipe slot (s .pipes) (s .tables .tokens)
       (first-holds (isLoaded (s .pipes) (s .tables .tokens) slot) _ (rest-hold (ltb l (s .lines)) _ (rw i at e))))
 
-  -- so a line of the plan is ready to move
-  pub ready : (l : ℕ) → l < s .lines → Ready s l
-  ready l h = record { lines = lines-most; pipes = pipes-most; line = h; pipe = pipe-less l (omega (arith, lines-most)) }
-
   -- no line below n can move
-  still-lines : (n : ℕ) → n ≤ s .lines → every n (isStill s) ≡ not (movable (machineOf s mem) n)
+  still-lines : (n : ℕ) → n ≤ s .lines → every n (isStill (s .counters) (s .slots)) ≡ not (movable (machineOf s mem) n)
   unfolding every movable isStill machineOf
   still-lines zero h = refl
   still-lines (suc n) h =
@@ -106,8 +111,18 @@ module _ (s : State) (mem : List ℕ) (ok : sound memorySource (machineOf s mem)
 
   -- and the code's test of the end is that of the rules
   pub ended-is : endedOf s ≡ ended (machineOf s mem)
-  unfolding endedOf ended machineOf
+  unfolding overOf ended machineOf
   ended-is = ap (λ b. if (s .stopped) b false) (still-lines (s .lines) (omega arith))
+
+-- so a line of the plan is ready to move
+pub ready : (f : Figures) (counters : List ℕ) (slots : List Slot) (mem : List ℕ) → sound memorySource (machineOf (whole f counters slots) mem) ≡ true →
+    (l : ℕ) → l < f .lines → Ready f (getD slots l idle) l
+ready f counters slots mem ok l h = record {
+  lines = lines-most (whole f counters slots) mem ok;
+  pipes = pipes-most (whole f counters slots) mem ok;
+  line = h;
+  pipe = pipe-less (whole f counters slots) mem ok l (omega (arith, lines-most (whole f counters slots) mem ok));
+}
 
 -- what the code's test promises
 pub both-rules : {r : Bool} (s : State) → r ≡ endedOf s →

@@ -1,12 +1,11 @@
 -- A choice, case by case, as the code meets it.
-use mathlib.Core.Path.{_≡_, sym, _∙_}
+use mathlib.Core.Path.{_≡_, refl, sym, _∙_}
 use mathlib.Core.Bool.{Bool, true, false}
 use mathlib.Core.List.{List}
-use Prim.Native.Nat.{ℕ, _+_, _*_, _<_, _≤_}
+use Prim.Native.Nat.{ℕ, _<_, _≤_}
 use borrow.Author.Tests.{lt-ltb, le-ltb, eq-eqb, ne-eqb}
 use lib.ListN.{getD}
-use Rattle.rules.specs.RunState.{Machine}
-use Rattle.rules.specs.declared.Line.{Line}
+use Rattle.rules.specs.RunState.{Machine, idle, counterAt}
 use Rattle.rules.specs.declared.Slot.{Slot}
 use Rattle.rules.specs.declared.refusal.Refusal.{Refusal}
 use Rattle.rules.specs.Choices.{runningBelow, ended, start, finish, move, choose}
@@ -15,65 +14,70 @@ use Rattle.rules.specs.Choices as rules
 use Rattle.tables.specs.State as tables
 use Rattle.tables.specs.Calls.{memorySource}
 use Rattle.engine.specs.declared.State.{State}
-use Rattle.engine.specs.declared.Chosen.{Chosen}
-use Rattle.engine.specs.Machines.{machineOf, refusedBy, chosenOf}
-use Rattle.engine.specs.Moves.{Ready, slotAt, endedOf}
+use Rattle.engine.specs.declared.turn.Figures.{Figures}
+use Rattle.engine.specs.declared.turn.Turn.{Turn}
+use Rattle.engine.specs.Machines.{machineOf, chosenOf}
+use Rattle.engine.specs.Moves.{endedOf}
+use Rattle.engine.specs.Turns.{whole, turned, Ready}
 use Rattle.engine.proofs.moves.Parts.{refused}
 use Rattle.engine.proofs.in_range.SoundLaws as sound
 
-module _ (s : State) (line : Line) (mem : List ℕ) where
+module _ (f : Figures) (counters : List ℕ) (slots : List Slot) (l : ℕ) (mem : List ℕ) where
+  abbrev s : State
+  s = whole f counters slots
+
   -- the line's slot and its counter, and the machine
   abbrev here : Slot
-  here = slotAt s (line .0)
+  here = getD slots l idle
 
-  abbrev counterAt : ℕ
-  counterAt = getD (s .counters) (16 * line .0 + here .pipe .0) 0
+  abbrev due : ℕ
+  due = getD counters (counterAt l (here .pipe .0)) 0
 
   abbrev machine : Machine tables.State
   machine = machineOf s mem
 
   -- the moves of a line
-  pub move-finish : {x : rules.Chosen tables.State} → here .running ≡ true → x ≡ finish memorySource machine (line .0) → x ≡ move memorySource machine (line .0)
+  pub move-finish : {x : rules.Chosen tables.State} → here .running ≡ true → x ≡ finish memorySource machine l → x ≡ move memorySource machine l
   unfolding move machineOf
   move-finish e h = rw e h
 
   module _ (waits : here .running ≡ false) where
-    pub move-early : {r : Chosen} → (counterAt ≡ 0 → ⊥) → r ≡ refusedBy s Refusal.Early → chosenOf r mem ≡ move memorySource machine (line .0)
+    pub move-early : (due ≡ 0 → ⊥) → chosenOf (turned s l (Turn.Refused Refusal.Early)) mem ≡ move memorySource machine l
     unfolding move machineOf
-    move-early n r-is = refused s Refusal.Early mem r-is ∙ rw (waits, ne-eqb counterAt 0 n)
+    move-early n = refused s Refusal.Early mem refl ∙ rw (waits, ne-eqb due 0 n)
 
-    module _ (due : counterAt ≡ 0) {n : ℕ} (n-is : n ≡ runningBelow (s .slots) (s .lines)) where
-      pub move-crowded : {r : Chosen} → s .workers ≤ n → r ≡ refusedBy s Refusal.Crowded → chosenOf r mem ≡ move memorySource machine (line .0)
+    module _ (none : due ≡ 0) {n : ℕ} (n-is : n ≡ runningBelow slots (f .lines)) where
+      pub move-crowded : f .workers ≤ n → chosenOf (turned s l (Turn.Refused Refusal.Crowded)) mem ≡ move memorySource machine l
       unfolding move machineOf
-      move-crowded h r-is = refused s Refusal.Crowded mem r-is ∙ rw (waits, eq-eqb counterAt 0 due, ← n-is, le-ltb n (s .workers) h)
+      move-crowded h = refused s Refusal.Crowded mem refl ∙ rw (waits, eq-eqb due 0 none, ← n-is, le-ltb n (f .workers) h)
 
-      pub move-start : {x : rules.Chosen tables.State} → n < s .workers → x ≡ start memorySource machine (line .0) → x ≡ move memorySource machine (line .0)
+      pub move-start : {x : rules.Chosen tables.State} → n < f .workers → x ≡ start memorySource machine l → x ≡ move memorySource machine l
       unfolding move machineOf
-      move-start h x-is = rw (waits, eq-eqb counterAt 0 due, ← n-is, lt-ltb n (s .workers) h) x-is
+      move-start h x-is = rw (waits, eq-eqb due 0 none, ← n-is, lt-ltb n (f .workers) h) x-is
 
   -- the choice
-  module _ {f : Bool} (f-is : f ≡ sound memorySource machine) where
-    pub choose-unsound : {r : Chosen} → f ≡ false → r ≡ refusedBy s Refusal.Spoiled → chosenOf r mem ≡ choose memorySource machine (line .0)
+  module _ {b : Bool} (b-is : b ≡ sound memorySource machine) where
+    pub choose-unsound : b ≡ false → chosenOf (turned s l (Turn.Refused Refusal.Spoiled)) mem ≡ choose memorySource machine l
     unfolding choose
-    choose-unsound e r-is = refused s Refusal.Spoiled mem r-is ∙ rw (sym f-is ∙ e)
+    choose-unsound e = refused s Refusal.Spoiled mem refl ∙ rw (sym b-is ∙ e)
 
-    module _ (ok : f ≡ true) where
-      pub choose-far : {r : Chosen} → s .lines ≤ line .0 → r ≡ refusedBy s Refusal.NoLine → chosenOf r mem ≡ choose memorySource machine (line .0)
+    module _ (ok : b ≡ true) where
+      pub choose-far : f .lines ≤ l → chosenOf (turned s l (Turn.Refused Refusal.NoLine)) mem ≡ choose memorySource machine l
       unfolding choose machineOf
-      choose-far h r-is = refused s Refusal.NoLine mem r-is ∙ rw (sym f-is ∙ ok, le-ltb (line .0) (s .lines) h)
+      choose-far h = refused s Refusal.NoLine mem refl ∙ rw (sym b-is ∙ ok, le-ltb l (f .lines) h)
 
-      module _ (known : line .0 < s .lines) where
-        pub ready-here : Ready s (line .0)
-        ready-here = sound.ready s mem (sym f-is ∙ ok) (line .0) known
+      module _ (known : l < f .lines) where
+        pub ready-here : Ready f here l
+        ready-here = sound.ready f counters slots mem (sym b-is ∙ ok) l known
 
         module _ {e : Bool} (e-is : e ≡ endedOf s) where
           ended-here : ended machine ≡ e
-          ended-here = sym (e-is ∙ sound.ended-is s mem (sym f-is ∙ ok))
+          ended-here = sym (e-is ∙ sound.ended-is s mem (sym b-is ∙ ok))
 
-          pub choose-over : {r : Chosen} → e ≡ true → r ≡ refusedBy s Refusal.Ended → chosenOf r mem ≡ choose memorySource machine (line .0)
+          pub choose-over : e ≡ true → chosenOf (turned s l (Turn.Refused Refusal.Ended)) mem ≡ choose memorySource machine l
           unfolding choose machineOf
-          choose-over t r-is = refused s Refusal.Ended mem r-is ∙ rw (sym f-is ∙ ok, lt-ltb (line .0) (s .lines) known, ended-here ∙ t)
+          choose-over t = refused s Refusal.Ended mem refl ∙ rw (sym b-is ∙ ok, lt-ltb l (f .lines) known, ended-here ∙ t)
 
-          pub choose-move : {x : rules.Chosen tables.State} → e ≡ false → x ≡ move memorySource machine (line .0) → x ≡ choose memorySource machine (line .0)
+          pub choose-move : {x : rules.Chosen tables.State} → e ≡ false → x ≡ move memorySource machine l → x ≡ choose memorySource machine l
           unfolding choose machineOf
-          choose-move t x-is = rw (sym f-is ∙ ok, lt-ltb (line .0) (s .lines) known, ended-here ∙ t) x-is
+          choose-move t x-is = rw (sym b-is ∙ ok, lt-ltb l (f .lines) known, ended-here ∙ t) x-is

@@ -1,35 +1,39 @@
 -- A finish, case by case, as the code meets it.
 use mathlib.Core.Path.{_≡_, refl, sym, ap, _∙_}
-use mathlib.Core.Bool.{true, false}
+use mathlib.Core.Bool.{Bool, true, false}
 use mathlib.Core.List.{List}
 use mathlib.Core.Logic.{by-cases}
 use native.Mathlib.Decide.{ℕ-discrete}
-use Prim.Native.Nat.{ℕ, suc, _+_, _*_, _<_}
+use Prim.Native.Nat.{ℕ, suc, _-_, _<_}
 use native.Mathlib.Omega.{arith}
-use borrow.Author.Tests.{eq-eqb, ne-eqb}
+use borrow.Author.Tests.{eq-eqb, ne-eqb, eqb-true, eqb-false}
 use lib.Dec.{eqb}
-use lib.ListN.{getD, set}
+use lib.ListN.{getD, set, length, List·getD-eq-default}
+use lib.Seq.{set-getD, getD-set-same, getD-set-other}
 use Rattle.rules.specs.Lists.{if}
 use Rattle.rules.specs.declared.Line.{Line}
 use Rattle.rules.specs.declared.Slot.{Slot}
+use Rattle.rules.specs.declared.answer.Answer.{Answer}
 use Rattle.rules.specs.declared.refusal.Refusal.{Refusal}
+use Rattle.rules.specs.RunState.{idle, counterAt}
 use Rattle.rules.specs.Sources.{Released as Outcome, Broken, Passed}
 use Rattle.rules.specs.Choices.{next, moved, fall, refuse, settle, finishWith, finishFirst, finish}
 use Rattle.rules.specs.Choices as rules
+use Rattle.rules.specs.Answers.{answerOf}
+use Rattle.rules.proofs.lists.Tests.{by-test, lower, upper, below}
 use Rattle.tables.specs.declared.Tables.{Tables}
 use Rattle.tables.specs.declared.Released.{Released}
 use Rattle.tables.specs.State as tables
 use Rattle.tables.specs.Releasing.{releasedOf, releasedMemory}
 use Rattle.tables.specs.Calls.{safeRelease, memorySource}
 use Rattle.engine.specs.declared.State.{State}
-use Rattle.rules.specs.declared.answer.Answer.{Answer}
-use Rattle.engine.specs.declared.Chosen.{Chosen}
-use Rattle.engine.specs.declared.finishing.Fallen.{Fallen}
-use Rattle.engine.specs.Machines.{machineOf, refusedBy, chosenOf}
-use Rattle.rules.specs.Answers.{answerOf}
-use Rattle.engine.specs.Moves.{slotAt, fallenOf, firstOf, bothOf, finishedOf}
-use Rattle.rules.proofs.lists.Tests.{by-test, if-holds, if-fails}
-use Rattle.engine.proofs.moves.Parts.{withParts, parts, refused}
+use Rattle.engine.specs.declared.turn.Figures.{Figures}
+use Rattle.engine.specs.declared.turn.Turn.{Turn}
+use Rattle.engine.specs.declared.finishing.Falls.{Falls}
+use Rattle.engine.specs.Machines.{machineOf, chosenOf}
+use Rattle.engine.specs.Turns.{whole, turned}
+use Rattle.engine.specs.Moves.{fallsOf, bothOf, fallen, finishedOf, settledTurn}
+use Rattle.engine.proofs.moves.Parts.{parts, refused}
 use Rattle.engine.proofs.moves.Kept.{was-broken, was-passed}
 
 -- the number after is one of the numbers
@@ -38,110 +42,148 @@ next-less n i h e = by-cases (ℕ-discrete (suc i) n)
     (λ last. let e′ = rw (eq-eqb (suc i) n last) at e in omega arith)
     (λ inner. let e′ = rw (ne-eqb (suc i) n inner) at e in omega arith)
 
--- both falls, one after the other
-module _ (s : State) (l : ℕ) where
-  module _ {f : Fallen} {a : ℕ} (a-is : a ≡ next (s .lines) l)
-      (f-is : f ≡ fallenOf (s .counters) (16 * a + slotAt s l .pipe .0) (getD (s .serial) (slotAt s l .pipe .0) false)) where
-    first-is : f ≡ firstOf s l (slotAt s l)
-    unfolding firstOf
-    first-is = f-is ∙ ap (λ b. fallenOf (s .counters) (16 * b + slotAt s l .pipe .0) (getD (s .serial) (slotAt s l .pipe .0) false)) a-is
+-- what is above 0 lies within the list
+within : (c : List ℕ) (i : ℕ) → eqb (getD c i 0) 0 ≡ false → i < length c
+within c i e = elim (below i (length c)) [ lower h t ↦ h | upper h t ↦ absurd (eqb-false (getD c i 0) 0 e (List·getD-eq-default c 0 h)) ]
 
-    pub both-fell : {g : Fallen} {b : ℕ} → f .ok ≡ true → b ≡ next (s .pipes) (slotAt s l .pipe .0) →
-        g ≡ fallenOf (f .counters) (16 * l + b) true → g ≡ bothOf s l
-    unfolding bothOf
-    both-fell {g} {b} ok b-is g-is =
-        rw (← first-is) (if-holds (f .ok) (fallenOf (f .counters) (16 * l + next (s .pipes) (slotAt s l .pipe .0)) true) f g ok
-        (g-is ∙ ap (λ n. fallenOf (f .counters) (16 * l + n) true) b-is))
+-- a counter after another, or the same, was written
+left-by : (c : List ℕ) (i j v : ℕ) → eqb (getD c i 0) 0 ≡ false → getD (set c i v) j 0 ≡ if (eqb i j) v (getD c j 0)
+left-by c i j v e = by-test (eqb i j)
+    (λ b. let same : i ≡ j = eqb-true i j b in rw (b, ← same) (getD-set-same c i v 0 (within c i e)))
+    (λ b. rw b (getD-set-other c i j v 0 (λ q. eqb-false i j b (sym q))))
 
-    pub first-low : f .ok ≡ false → f ≡ bothOf s l
-    unfolding bothOf
-    first-low low = rw (← first-is) (if-fails (f .ok) (fallenOf (f .counters) (16 * l + next (s .pipes) (slotAt s l .pipe .0)) true) f f low refl)
+-- the falls at a serial pipe, by what is left ahead
+module _ {serial : Bool} (i near j far : ℕ) {left : ℕ} (e : serial ≡ true) (n : near ≡ 0 → ⊥) (left-is : left ≡ if (eqb i j) (near - 1) far) where
+  pub falls-low : left ≡ 0 → record { ok = false; first = record { at = j; value = far }; second = record { at = j; value = far } } ≡ fallsOf serial i near j far
+  unfolding fallsOf
+  falls-low z = rw (e, ne-eqb near 0 n, ← left-is, eq-eqb left 0 z)
 
-module _ (s : State) (line : Line) where
-  -- the line's slot
-  abbrev here : Slot
-  here = slotAt s (line .0)
+  pub falls-both : (left ≡ 0 → ⊥) →
+      record { ok = true; first = record { at = i; value = near - 1 }; second = record { at = j; value = left - 1 } } ≡ fallsOf serial i near j far
+  unfolding fallsOf
+  falls-both z = rw (e, ne-eqb near 0 n, ← left-is, ne-eqb left 0 z)
+
+-- the counters that fall are those handed in
+pub falls-within : (serial : Bool) (i near j far : ℕ) → i < 512 → j < 512 →
+    (fallsOf serial i near j far .first .at < 512) × (fallsOf serial i near j far .second .at < 512)
+unfolding fallsOf
+falls-within serial i near j far a b =
+    by-test serial
+    (λ e. by-test (eqb near 0) (λ g. rw (e, g) (b, b))
+    (λ g. by-test (eqb (if (eqb i j) (near - 1) far) 0) (λ h. rw (e, g, h) (b, b)) (λ h. rw (e, g, h) (a, b))))
+    (λ e. by-test (eqb far 0) (λ g. rw (e, g) (b, b)) (λ g. rw (e, g) (b, b)))
+
+-- both falls, by the counters that the code worked out
+pub both-told : (f : Figures) (counters : List ℕ) (l : ℕ) (slot : Slot) {a b : ℕ} {x : Falls} →
+    a ≡ next (f .lines) l → b ≡ next (f .pipes) (slot .pipe .0) → counterAt a (slot .pipe .0) < 512 → counterAt l b < 512 →
+    x ≡ fallsOf (getD (f .serial) (slot .pipe .0) false) (counterAt a (slot .pipe .0)) (getD counters (counterAt a (slot .pipe .0)) 0)
+    (counterAt l b) (getD counters (counterAt l b) 0) →
+    (x ≡ bothOf f counters l slot) × ((x .first .at < 512) × (x .second .at < 512))
+unfolding bothOf
+both-told f counters l slot {a} {b} {x} a-is b-is h k x-is = (
+  rw (← a-is, ← b-is) x-is,
+  rw x-is (falls-within (getD (f .serial) (slot .pipe .0) false) (counterAt a (slot .pipe .0)) _ (counterAt l b) _ h k),
+)
+
+module _ (f : Figures) (line : Line) (slot : Slot) where
+  -- the code's turn, with the slot that it worked out
+  pub settled-with : (x : Falls) (t : Tables) {after : Slot} → after ≡ moved (f .pipes) slot →
+      Turn.Made (record {
+        answer = Answer.Finished (record { line = line; pipe = slot .pipe; token = slot .token; place = slot .place });
+        first = x .first;
+        second = x .second;
+        slot = after;
+        placed = f .placed;
+        stopped = f .stopped;
+        tables = t;
+      }) ≡
+      settledTurn f line slot x t
+  settled-with x t e = rw e
+
+module _ (f : Figures) (counters : List ℕ) (slots : List Slot) (line : Line) (slot : Slot) (at : getD slots (line .0) idle ≡ slot) where
+  abbrev s : State
+  s = whole f counters slots
+
+  abbrev both : Falls
+  both = bothOf f counters (line .0) slot
 
   -- the counters that fall: that of the next line, and that of the next pipe
-  abbrev lineAfter : ℕ
-  lineAfter = 16 * next (s .lines) (line .0) + here .pipe .0
+  abbrev beside : ℕ
+  beside = counterAt (next (f .lines) (line .0)) (slot .pipe .0)
 
-  abbrev pipeAfter : ℕ
-  pipeAfter = 16 * line .0 + next (s .pipes) (here .pipe .0)
+  abbrev ahead : ℕ
+  ahead = counterAt (line .0) (next (f .pipes) (slot .pipe .0))
 
-  -- what is returned once both counters have fallen
-  pub settled : (t : Tables) (c : List ℕ) {after : Slot} → t .tokens ≡ s .tables .tokens → after ≡ moved (s .pipes) here → (m m′ : List ℕ) →
-      chosenOf (record {
-        answer = Answer.Finished (record { line = line; pipe = here .pipe; token = here .token; place = here .place });
-        state = withParts s c (set (s .slots) (line .0) after) (s .placed) (s .stopped) t;
-      }) m′ ≡
-      finishedOf (machineOf s m) (line .0) c (t, m′)
+  -- what is left once the counters have fallen
+  settled : (x : Falls) (t : Tables) → t .tokens ≡ f .tables .tokens → (m m′ : List ℕ) →
+      chosenOf (turned s (line .0) (settledTurn f line slot x t)) m′ ≡ finishedOf (machineOf s m) (line .0) (fallen counters x) (t, m′)
   unfolding chosenOf answerOf machineOf
-  settled t c same after-is m m′ = parts s m m′ same refl (ap (set (s .slots) (line .0)) after-is) refl
+  settled x t same m m′ = rw at (parts s m m′ same refl refl refl)
 
   -- both falls, and what follows from them
-  pub with-falls : (m : List ℕ) (x : tables.State) →
-      finishWith memorySource (machineOf s m) (line .0) here x ≡
-      if (bothOf s (line .0) .ok) (finishedOf (machineOf s m) (line .0) (bothOf s (line .0) .counters) x) (refuse (machineOf s m) 14)
-  unfolding finishWith settle bothOf firstOf fallenOf machineOf
+  with-falls : (m : List ℕ) (x : tables.State) →
+      finishWith memorySource (machineOf s m) (line .0) slot x ≡
+      if (both .ok) (finishedOf (machineOf s m) (line .0) (fallen counters both) x) (refuse (machineOf s m) 14)
+  unfolding finishWith settle bothOf fallsOf fall machineOf
   with-falls m x =
-      by-test (getD (s .serial) (here .pipe .0) false)
-      (λ b. by-test (eqb (getD (s .counters) lineAfter 0) 0)
-      (λ e. rw (b, e))
-      (λ e. by-test (eqb (getD (fall (s .counters) lineAfter) pipeAfter 0) 0) (λ f. rw (b, e, f)) (λ f. rw (b, e, f))))
-      (λ b. by-test (eqb (getD (s .counters) pipeAfter 0) 0) (λ f. rw (b, f)) (λ f. rw (b, f)))
+      by-test (getD (f .serial) (slot .pipe .0) false)
+      (λ b. by-test (eqb (getD counters beside 0) 0)
+      (λ e. rw (at, b, e))
+      (λ e. let left = left-by counters beside ahead (getD counters beside 0 - 1) e in
+      by-test (eqb (if (eqb beside ahead) (getD counters beside 0 - 1) (getD counters ahead 0)) 0)
+      (λ g. rw (at, b, e, left, g))
+      (λ g. rw (at, b, e, left, g))))
+      (λ b. by-test (eqb (getD counters ahead 0) 0) (λ e. rw (at, b, e)) (λ e. rw (at, b, e, set-getD counters ahead 0)))
 
-  module _ (mem : List ℕ) where
+  module _ (mem : List ℕ) {x : Falls} (x-is : x ≡ both) where
     -- what the tables make of the token's finish
     abbrev given : Outcome tables.State
-    given = safeRelease (here .token .0) (s .tables, mem)
+    given = safeRelease (slot .token .0) (f .tables, mem)
 
-    module _ {f : Fallen} (f-is : f ≡ bothOf s (line .0)) where
-      -- a fall below 0
-      low : (o : Outcome tables.State) → f .ok ≡ false → finishFirst memorySource (machineOf s mem) (line .0) here o ≡ refuse (machineOf s mem) 14
-      unfolding finishFirst
-      low Broken e = refl
-      low (Passed x) e = with-falls mem x ∙ rw (← f-is, e)
+    -- the turn of the line is what the rules make of it
+    abbrev Turns : Turn → List ℕ → Type 0
+    Turns r mem′ = chosenOf (turned s (line .0) r) mem′ ≡ finish memorySource (machineOf s mem) (line .0)
 
-      pub finish-low : {r : Chosen} → f .ok ≡ false → r ≡ refusedBy s Refusal.Spoiled →
-          chosenOf r mem ≡ finish memorySource (machineOf s mem) (line .0)
+    -- a fall below 0
+    low : (o : Outcome tables.State) → x .ok ≡ false → finishFirst memorySource (machineOf s mem) (line .0) slot o ≡ refuse (machineOf s mem) 14
+    unfolding finishFirst
+    low Broken e = refl
+    low (Passed y) e = with-falls mem y ∙ rw (← x-is, e)
+
+    pub finish-low : x .ok ≡ false → Turns (Turn.Refused Refusal.Spoiled) mem
+    unfolding finish machineOf
+    finish-low e = refused s Refusal.Spoiled mem refl ∙ by-test (eqb (slot .pipe .0) 0)
+        (λ b. rw (at, b) (sym (low given e)))
+        (λ b. rw (at, b) (sym (with-falls mem (f .tables, mem) ∙ rw (← x-is, e))))
+
+    module _ (fell : x .ok ≡ true) where
+      counted : (t : Tables) (m : List ℕ) → t .tokens ≡ f .tables .tokens →
+          chosenOf (turned s (line .0) (settledTurn f line slot x t)) m ≡ finishWith memorySource (machineOf s mem) (line .0) slot (t, m)
+      counted t m same = settled x t same mem m ∙ sym (with-falls mem (t, m) ∙ rw (← x-is, fell))
+
+      -- past pipe 0
+      pub finish-later : {r : Turn} → (slot .pipe .0 ≡ 0 → ⊥) → r ≡ settledTurn f line slot x (f .tables) → Turns r mem
       unfolding finish machineOf
-      finish-low e r-is = refused s Refusal.Spoiled mem r-is ∙ by-test (eqb (here .pipe .0) 0)
-          (λ b. rw b (sym (low given e)))
-          (λ b. rw b (sym (with-falls mem (s .tables, mem) ∙ rw (← f-is, e))))
+      finish-later n r-is = rw (r-is, at, ne-eqb (slot .pipe .0) 0 n) (counted (f .tables) mem refl)
 
-      module _ (fell : f .ok ≡ true) where
-        counted : (x : tables.State) → finishedOf (machineOf s mem) (line .0) (f .counters) x ≡ finishWith memorySource (machineOf s mem) (line .0) here x
-        counted x = sym (with-falls mem x ∙ rw (← f-is, fell))
-
-        -- past pipe 0
-        pub finish-later : {x : rules.Chosen tables.State} → (here .pipe .0 ≡ 0 → ⊥) →
-            x ≡ finishedOf (machineOf s mem) (line .0) (f .counters) (s .tables, mem) → x ≡ finish memorySource (machineOf s mem) (line .0)
+      -- at pipe 0, by what the tables made of it
+      module _ (first : slot .pipe .0 ≡ 0) {a : Released} (told : a ≡ releasedOf given) where
+        finish-told : (o : Outcome tables.State) {c : rules.Chosen tables.State} → given ≡ o →
+            c ≡ finishFirst memorySource (machineOf s mem) (line .0) slot o → c ≡ finish memorySource (machineOf s mem) (line .0)
         unfolding finish machineOf
-        finish-later n h = rw (ne-eqb (here .pipe .0) 0 n) (h ∙ counted (s .tables, mem))
+        finish-told o e h = rw (at, eq-eqb (slot .pipe .0) 0 first, e) h
 
-        -- at pipe 0, by what the tables made of it
-        module _ (first : here .pipe .0 ≡ 0) {a : Released} (told : a ≡ releasedOf given) where
-          finish-told : (o : Outcome tables.State) {x : rules.Chosen tables.State} → given ≡ o →
-              x ≡ finishFirst memorySource (machineOf s mem) (line .0) here o → x ≡ finish memorySource (machineOf s mem) (line .0)
-          unfolding finish machineOf
-          finish-told o e h = rw (eq-eqb (here .pipe .0) 0 first, e) h
+        module _ {mem′ : List ℕ} (left : mem′ ≡ releasedMemory mem given) where
+          pub finish-broken : a ≡ Released.Broken → Turns (Turn.Refused Refusal.Spoiled) mem′
+          unfolding finishFirst
+          finish-broken e =
+              let o = was-broken mem given (sym told ∙ e) in
+              ap (chosenOf (turned s (line .0) (Turn.Refused Refusal.Spoiled))) (left ∙ o .1) ∙
+              finish-told Broken (o .0) (refused s Refusal.Spoiled mem refl)
 
-          passed-given : {t : Tables} → a ≡ Released.Passed t → given ≡ Passed (t, releasedMemory mem given)
-          passed-given e = was-passed mem given (sym told ∙ e)
-
-          module _ {mem′ : List ℕ} (r : Chosen) (left : mem′ ≡ releasedMemory mem given) where
-            pub finish-broken : a ≡ Released.Broken → r ≡ refusedBy s Refusal.Spoiled →
-                chosenOf r mem′ ≡ finish memorySource (machineOf s mem) (line .0)
-            unfolding finishFirst
-            finish-broken e r-is =
-                let o = was-broken mem given (sym told ∙ e) in
-                ap (chosenOf r) (left ∙ o .1) ∙ finish-told Broken (o .0) (refused s Refusal.Spoiled mem r-is)
-
-            pub finish-passed : {t : Tables} → a ≡ Released.Passed t →
-                ((m m′ : List ℕ) → chosenOf r m′ ≡ finishedOf (machineOf s m) (line .0) (f .counters) (t, m′)) →
-                chosenOf r mem′ ≡ finish memorySource (machineOf s mem) (line .0)
-            unfolding finishFirst
-            finish-passed {t} e r-is =
-                finish-told (Passed (t, releasedMemory mem given)) (passed-given e)
-                (r-is mem mem′ ∙ ap (λ m. finishedOf (machineOf s mem) (line .0) (f .counters) (t, m)) left ∙ counted (t, releasedMemory mem given))
+          pub finish-passed : {t : Tables} {r : Turn} → a ≡ Released.Passed t → t .tokens ≡ f .tables .tokens →
+              r ≡ settledTurn f line slot x t → Turns r mem′
+          unfolding finishFirst
+          finish-passed {t} {r} e same r-is =
+              finish-told (Passed (t, releasedMemory mem given)) (was-passed mem given (sym told ∙ e))
+              (rw (r-is, left) (counted t (releasedMemory mem given) same))

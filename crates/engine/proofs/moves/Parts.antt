@@ -2,7 +2,7 @@
 use mathlib.Core.Path.{_≡_}
 use mathlib.Core.Bool.{Bool}
 use mathlib.Core.List.{List}
-use Prim.Native.Nat.{ℕ}
+use Prim.Native.Nat.{ℕ, _<_}
 use Rattle.rules.specs.declared.Slot.{Slot}
 use Rattle.rules.specs.declared.refusal.Refusal.{Refusal}
 use Rattle.rules.specs.Refusals.{numberOf}
@@ -12,7 +12,10 @@ use Rattle.tables.specs.declared.Tables.{Tables}
 use Rattle.tables.specs.State as tables
 use Rattle.engine.specs.declared.State.{State}
 use Rattle.engine.specs.declared.Chosen.{Chosen}
+use Rattle.engine.specs.declared.turn.Change.{Change}
+use Rattle.engine.specs.declared.turn.Turn.{Turn}
 use Rattle.engine.specs.Machines.{machineOf, refusedBy, chosenOf}
+use Rattle.engine.specs.Turns.{turned, Fits}
 use Rattle.rules.specs.Answers.{answerOf}
 
 -- the same state but for some of its parts
@@ -57,3 +60,14 @@ pub refused : {r : Chosen} (s : State) (why : Refusal) (m : List ℕ) → r ≡ 
     chosenOf r m ≡ refuse (machineOf s m) (numberOf why)
 unfolding chosenOf answerOf
 refused s why m e = rw e
+
+-- a turn whose counters are within the tables
+pub made-fits : (l : ℕ) {c : Change} {r : Turn} → r ≡ Turn.Made c → (c .first .at < 512) × (c .second .at < 512) → l < 32 → Fits l r
+made-fits l r-is h k = rw r-is (h .0, h .1, k)
+
+pub made-within : (l : ℕ) {c : Change} {r : Turn} → r ≡ Turn.Made c → Fits l r → (c .first .at < 512) × (c .second .at < 512) × (l < 32)
+made-within l r-is h = rw r-is at h
+
+-- what a turn makes of a state, by what the turn is
+pub turned-as : (s : State) (l : ℕ) (m : List ℕ) {r x : Turn} {c : rules.Chosen tables.State} → r ≡ x → chosenOf (turned s l r) m ≡ c → chosenOf (turned s l x) m ≡ c
+turned-as s l m e h = rw e at h

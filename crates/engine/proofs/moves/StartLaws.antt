@@ -1,21 +1,25 @@
 -- A start, case by case, as the code meets it.
 use mathlib.Core.Path.{_≡_, refl, sym, ap, _∙_}
 use mathlib.Core.Bool.{Bool, true, false}
-use mathlib.Core.List.{List}
-use Prim.Native.Nat.{ℕ, _+_, _<_, _≤_}
+use mathlib.Core.List.{List, [], _∷_}
+use Prim.Native.Nat.{ℕ, zero, suc, _<_, _≤_}
 use native.Mathlib.Omega.{arith}
 use native.Mathlib.Numerals.{add-one}
 use borrow.Author.Tests.{lt-ltb, le-ltb, ltb-true, eq-eqb, ne-eqb}
 use lib.Dec.{ltb}
-use lib.ListN.{set}
+use lib.ListN.{getD, set}
+use lib.Seq.{set-getD}
 use Rattle.rules.specs.Lists.{if}
 use Rattle.rules.specs.declared.Line.{Line}
 use Rattle.rules.specs.declared.Slot.{Slot}
+use Rattle.rules.specs.declared.answer.Answer.{Answer}
 use Rattle.rules.specs.declared.refusal.Refusal.{Refusal}
+use Rattle.rules.specs.RunState.{idle, counterAt}
 use Rattle.rules.specs.Sources.{Taken as Outcome, Spoiled, Nothing, Took}
-use Rattle.rules.specs.RunState.{waits}
-use Rattle.rules.specs.Choices.{filled, refuse, start, startFirst, startLater}
+use Rattle.rules.specs.Choices.{refuse, startFirst, startLater, start}
 use Rattle.rules.specs.Choices as rules
+use Rattle.rules.specs.Answers.{answerOf}
+use Rattle.rules.proofs.lists.Tests.{by-test}
 use Rattle.tables.specs.declared.Tables.{Tables}
 use Rattle.tables.specs.declared.Taken.{Taken}
 use Rattle.tables.specs.declared.Offer.{Offer}
@@ -23,13 +27,13 @@ use Rattle.tables.specs.State as tables
 use Rattle.tables.specs.Taking.{takenOf, takenMemory, offeredOf}
 use Rattle.tables.specs.Calls.{safeTake, memorySource}
 use Rattle.engine.specs.declared.State.{State}
-use Rattle.rules.specs.declared.answer.Answer.{Answer}
-use Rattle.engine.specs.declared.Chosen.{Chosen}
-use Rattle.engine.specs.Machines.{machineOf, refusedBy, chosenOf}
-use Rattle.rules.specs.Answers.{answerOf}
-use Rattle.engine.specs.Moves.{slotAt, isTook, overfullOf}
-use Rattle.rules.proofs.lists.Tests.{by-test}
-use Rattle.engine.proofs.moves.Parts.{withParts, parts, refused}
+use Rattle.engine.specs.declared.turn.Figures.{Figures}
+use Rattle.engine.specs.declared.turn.Cell.{Cell}
+use Rattle.engine.specs.declared.turn.Turn.{Turn}
+use Rattle.engine.specs.Machines.{machineOf, chosenOf}
+use Rattle.engine.specs.Turns.{whole, turned}
+use Rattle.engine.specs.Moves.{isTook, overfullOf, refilled, startedTurn, takenTurn, stoppedTurn}
+use Rattle.engine.proofs.moves.Parts.{parts, refused}
 use Rattle.engine.proofs.moves.Kept.{was-spoiled, was-nothing, was-took}
 
 -- whether a token is offered
@@ -45,115 +49,133 @@ token-took (Nothing x) = refl
 token-took (Took k x) = refl
 
 -- whether a token would be taken with no place left
-module _ (s : State) (mem : List ℕ) where
-  pub overfull-no : s .placed < s .tables .tokens → false ≡ overfullOf s mem
+module _ (f : Figures) (mem : List ℕ) where
+  pub overfull-no : f .placed < f .tables .tokens → false ≡ overfullOf f mem
   unfolding overfullOf
-  overfull-no h = rw (lt-ltb (s .placed) (s .tables .tokens) h)
+  overfull-no h = rw (lt-ltb (f .placed) (f .tables .tokens) h)
 
-  pub overfull-by : {a v : Offer} → s .tables .tokens ≤ s .placed → a ≡ offeredOf (safeTake (s .tables, mem)) → a ≡ v → isToken v ≡ overfullOf s mem
+  pub overfull-by : {a v : Offer} → f .tables .tokens ≤ f .placed → a ≡ offeredOf (safeTake (f .tables, mem)) → a ≡ v → isToken v ≡ overfullOf f mem
   unfolding overfullOf
-  overfull-by h told e = rw (le-ltb (s .placed) (s .tables .tokens) h) (ap isToken (sym e ∙ told) ∙ token-took (safeTake (s .tables, mem)))
+  overfull-by h told e = rw (le-ltb (f .placed) (f .tables .tokens) h) (ap isToken (sym e ∙ told) ∙ token-took (safeTake (f .tables, mem)))
 
   -- where not, a token that was taken has a place
-  under : (o : Outcome tables.State) {k : ℕ} {x : tables.State} → if (ltb (s .placed) (s .tables .tokens)) false (isTook o) ≡ false → o ≡ Took k x →
-      s .placed < s .tables .tokens
-  under o e f = by-test (ltb (s .placed) (s .tables .tokens))
-      (λ b. ltb-true (s .placed) (s .tables .tokens) b)
-      (λ b. let z : _≡_ {A = ℕ} 0 1 = cc (rw (b, f) at e) in absurd (omega arith))
+  under : (o : Outcome tables.State) {k : ℕ} {x : tables.State} → if (ltb (f .placed) (f .tables .tokens)) false (isTook o) ≡ false → o ≡ Took k x →
+      f .placed < f .tables .tokens
+  under o e g = by-test (ltb (f .placed) (f .tables .tokens))
+      (λ b. ltb-true (f .placed) (f .tables .tokens) b)
+      (λ b. let z : _≡_ {A = ℕ} 0 1 = cc (rw (b, g) at e) in absurd (omega arith))
 
-  pub took-room : {f : Bool} {a : Taken} {k : ℕ} {t : Tables} → f ≡ overfullOf s mem → f ≡ false → a ≡ takenOf (safeTake (s .tables, mem)) →
-      a ≡ Taken.Took k t → s .placed < s .tables .tokens
+  pub took-room : {b : Bool} {a : Taken} {k : ℕ} {t : Tables} → b ≡ overfullOf f mem → b ≡ false → a ≡ takenOf (safeTake (f .tables, mem)) →
+      a ≡ Taken.Took k t → f .placed < f .tables .tokens
   unfolding overfullOf
-  took-room f-is e told g = under (safeTake (s .tables, mem)) (sym f-is ∙ e) (was-took mem (safeTake (s .tables, mem)) (sym told ∙ g))
+  took-room b-is e told g = under (safeTake (f .tables, mem)) (sym b-is ∙ e) (was-took mem (safeTake (f .tables, mem)) (sym told ∙ g))
 
-module _ (s : State) (line : Line) where
-  -- the line's slot
-  abbrev here : Slot
-  here = slotAt s (line .0)
+-- a number written twice
+written-twice : (c : List ℕ) (i v : ℕ) → set (set c i v) i v ≡ set c i v
+written-twice [] i v = refl
+written-twice (x ∷ c) zero v = refl
+written-twice (x ∷ c) (suc i) v = ap (λ (r : List ℕ). x ∷ r) (written-twice c i v)
 
-  -- a stop
-  pub stop-is : (t : Tables) {c : List ℕ} → t .tokens ≡ s .tables .tokens → ((m : List ℕ) → c ≡ filled (machineOf s m) (line .0) 0) → (m m′ : List ℕ) →
-      chosenOf (record { answer = Answer.Stopped line; state = withParts s c (s .slots) (s .placed) true t }) m′ ≡
-      startFirst memorySource (machineOf s m) (line .0) (Nothing (t, m′))
-  unfolding chosenOf answerOf startFirst machineOf
-  stop-is t same c-is m m′ = parts s m m′ same (c-is m) refl refl
+-- the code's turns, with the counter that it worked out
+module _ (f : Figures) (line : Line) (slot : Slot) {cell : Cell} where
+  pub started-with : cell ≡ refilled f (line .0) (slot .pipe .0) →
+      Turn.Made (record {
+        answer = Answer.Started (record { line = line; pipe = slot .pipe; token = slot .token; place = slot .place });
+        first = cell;
+        second = cell;
+        slot = record { pipe = slot .pipe; running = true; token = slot .token; place = slot .place };
+        placed = f .placed;
+        stopped = f .stopped;
+        tables = f .tables;
+      }) ≡
+      startedTurn f line slot
+  started-with e = rw e
+
+  pub stopped-with : (t : Tables) → cell ≡ refilled f (line .0) 0 →
+      Turn.Made (record { answer = Answer.Stopped line; first = cell; second = cell; slot = slot; placed = f .placed; stopped = true; tables = t }) ≡
+      stoppedTurn f line slot t
+  stopped-with t e = rw e
+
+module _ (f : Figures) (counters : List ℕ) (slots : List Slot) (line : Line) where
+  abbrev s : State
+  s = whole f counters slots
+
+  -- a counter that is full again
+  full-again : (p : ℕ) → set (set counters (counterAt (line .0) p) (refilled f (line .0) p .value)) (counterAt (line .0) p) (refilled f (line .0) p .value) ≡
+      set counters (counterAt (line .0) p) (refilled f (line .0) p .value)
+  full-again p = written-twice counters (counterAt (line .0) p) (refilled f (line .0) p .value)
 
   -- a start at the pipe of a slot, with its token and place
-  pub started-is : (slot : Slot) {c : List ℕ} → ((m : List ℕ) → c ≡ filled (machineOf s m) (line .0) (slot .pipe .0)) → (m : List ℕ) →
-      chosenOf (record {
-        answer = Answer.Started (record { line = line; pipe = slot .pipe; token = slot .token; place = slot .place });
-        state = withParts s c (set (s .slots) (line .0) (record { pipe = slot .pipe; running = true; token = slot .token; place = slot .place }))
-            (s .placed) (s .stopped) (s .tables);
-      }) m ≡
-      startLater memorySource (machineOf s m) (line .0) slot
+  started : (slot : Slot) (m : List ℕ) →
+      chosenOf (turned s (line .0) (startedTurn f line slot)) m ≡ startLater memorySource (machineOf s m) (line .0) slot
   unfolding chosenOf answerOf startLater machineOf
-  started-is slot c-is m = parts s m m refl (c-is m) refl refl
+  started slot m = parts s m m refl (full-again (slot .pipe .0)) refl refl
 
   -- a start with a token that was taken
-  pub took-is : (t : Tables) (r : Chosen) (token : ℕ) → t .tokens ≡ s .tables .tokens → s .placed < s .tables .tokens →
-      ((m : List ℕ) → chosenOf r m ≡ startLater memorySource (machineOf (withParts s (s .counters) (s .slots) (s .placed + 1) (s .stopped) t) m)
-      (line .0) (waits 0 token (s .placed))) → (m m′ : List ℕ) → chosenOf r m′ ≡ startFirst memorySource (machineOf s m) (line .0) (Took token (t, m′))
-  unfolding startFirst startLater machineOf
-  took-is t r token same room r-is m m′ =
-      r-is m′ ∙ rw (lt-ltb (s .placed) (s .tables .tokens) room) (parts s m m′ same refl refl (add-one (s .placed)))
+  taken : (t : Tables) (token : ℕ) → t .tokens ≡ f .tables .tokens → f .placed < f .tables .tokens → (m m′ : List ℕ) →
+      chosenOf (turned s (line .0) (takenTurn f line token t)) m′ ≡ startFirst memorySource (machineOf s m) (line .0) (Took token (t, m′))
+  unfolding chosenOf answerOf startFirst machineOf
+  taken t token same room m m′ =
+      rw (lt-ltb (f .placed) (f .tables .tokens) room) (parts s m m′ same (full-again 0) refl (add-one (f .placed)))
 
-  -- a token that no place is left for is refused
-  over : (m : List ℕ) (o : Outcome tables.State) → if (ltb (s .placed) (s .tables .tokens)) false (isTook o) ≡ true →
-      refuse (machineOf s m) 14 ≡ startFirst memorySource (machineOf s m) (line .0) o
-  unfolding startFirst machineOf
-  over m Spoiled e = refl
-  over m (Nothing x) e = by-test (ltb (s .placed) (s .tables .tokens))
-      (λ b. let z : _≡_ {A = ℕ} 0 1 = cc (rw b at e) in absurd (omega arith))
-      (λ b. let z : _≡_ {A = ℕ} 0 1 = cc (rw b at e) in absurd (omega arith))
-  over m (Took k x) e = by-test (ltb (s .placed) (s .tables .tokens))
-      (λ b. let z : _≡_ {A = ℕ} 0 1 = cc (rw b at e) in absurd (omega arith))
-      (λ b. rw b)
+  module _ (slot : Slot) (at : getD slots (line .0) idle ≡ slot) where
+    -- a stop
+    stopped : (t : Tables) → t .tokens ≡ f .tables .tokens → (m m′ : List ℕ) →
+        chosenOf (turned s (line .0) (stoppedTurn f line slot t)) m′ ≡ startFirst memorySource (machineOf s m) (line .0) (Nothing (t, m′))
+    unfolding chosenOf answerOf startFirst machineOf
+    stopped t same m m′ =
+        parts s m m′ same (full-again 0) (ap (set slots (line .0)) (sym at) ∙ set-getD slots (line .0) idle) refl
 
-  module _ (mem : List ℕ) where
-    -- what the tables give
-    abbrev given : Outcome tables.State
-    given = safeTake (s .tables, mem)
+    -- a token that no place is left for is refused
+    over : (m : List ℕ) (o : Outcome tables.State) → if (ltb (f .placed) (f .tables .tokens)) false (isTook o) ≡ true →
+        refuse (machineOf s m) 14 ≡ startFirst memorySource (machineOf s m) (line .0) o
+    unfolding startFirst machineOf
+    over m Spoiled e = refl
+    over m (Nothing x) e = by-test (ltb (f .placed) (f .tables .tokens))
+        (λ b. let z : _≡_ {A = ℕ} 0 1 = cc (rw b at e) in absurd (omega arith))
+        (λ b. let z : _≡_ {A = ℕ} 0 1 = cc (rw b at e) in absurd (omega arith))
+    over m (Took k x) e = by-test (ltb (f .placed) (f .tables .tokens))
+        (λ b. let z : _≡_ {A = ℕ} 0 1 = cc (rw b at e) in absurd (omega arith))
+        (λ b. rw b)
 
-    abbrev pub First : Chosen → List ℕ → Type 0
-    First r mem′ = chosenOf r mem′ ≡ startFirst memorySource (machineOf s mem) (line .0) given
+    module _ (mem : List ℕ) where
+      -- what the tables give
+      abbrev given : Outcome tables.State
+      given = safeTake (f .tables, mem)
 
-    pub first-overfull : {f : Bool} {r : Chosen} → f ≡ overfullOf s mem → f ≡ true → r ≡ refusedBy s Refusal.Spoiled → First r mem
-    unfolding overfullOf
-    first-overfull told e r-is = refused s Refusal.Spoiled mem r-is ∙ over mem given (sym told ∙ e)
+      abbrev First : Turn → List ℕ → Type 0
+      First r mem′ = chosenOf (turned s (line .0) r) mem′ ≡ startFirst memorySource (machineOf s mem) (line .0) given
 
-    module _ {a : Taken} (told : a ≡ takenOf given) where
-      nothing-given : {t : Tables} → a ≡ Taken.Nothing t → given ≡ Nothing (t, takenMemory mem given)
-      nothing-given e = was-nothing mem given (sym told ∙ e)
+      pub first-overfull : {b : Bool} → b ≡ overfullOf f mem → b ≡ true → First (Turn.Refused Refusal.Spoiled) mem
+      unfolding overfullOf
+      first-overfull told e = refused s Refusal.Spoiled mem refl ∙ over mem given (sym told ∙ e)
 
-      took-given : {k : ℕ} {t : Tables} → a ≡ Taken.Took k t → given ≡ Took k (t, takenMemory mem given)
-      took-given e = was-took mem given (sym told ∙ e)
+      -- the start with what is given, as it was told
+      from : {o : Outcome tables.State} {c : rules.Chosen tables.State} → given ≡ o → c ≡ startFirst memorySource (machineOf s mem) (line .0) o →
+          c ≡ startFirst memorySource (machineOf s mem) (line .0) given
+      from e h = h ∙ ap (startFirst memorySource (machineOf s mem) (line .0)) (sym e)
 
-      module _ {mem′ : List ℕ} (r : Chosen) (left : mem′ ≡ takenMemory mem given) where
-        pub first-spoiled : a ≡ Taken.Spoiled → r ≡ refusedBy s Refusal.Spoiled → First r mem′
+      module _ {a : Taken} (told : a ≡ takenOf given) {mem′ : List ℕ} (left : mem′ ≡ takenMemory mem given) where
+        pub first-spoiled : a ≡ Taken.Spoiled → First (Turn.Refused Refusal.Spoiled) mem′
         unfolding startFirst
-        first-spoiled e r-is =
+        first-spoiled e =
             let o = was-spoiled mem given (sym told ∙ e) in
-            ap (chosenOf r) (left ∙ o .1) ∙ refused s Refusal.Spoiled mem r-is ∙ ap (startFirst memorySource (machineOf s mem) (line .0)) (sym (o .0))
+            ap (chosenOf (turned s (line .0) (Turn.Refused Refusal.Spoiled))) (left ∙ o .1) ∙ from (o .0) (refused s Refusal.Spoiled mem refl)
 
-        pub first-nothing : {t : Tables} → a ≡ Taken.Nothing t →
-            ((m m′ : List ℕ) → chosenOf r m′ ≡ startFirst memorySource (machineOf s m) (line .0) (Nothing (t, m′))) → First r mem′
-        first-nothing {t} e r-is =
-            r-is mem mem′ ∙ ap (λ m. startFirst memorySource (machineOf s mem) (line .0) (Nothing (t, m))) left
-            ∙ ap (startFirst memorySource (machineOf s mem) (line .0)) (sym (nothing-given e))
+        pub first-nothing : {t : Tables} {r : Turn} → a ≡ Taken.Nothing t → t .tokens ≡ f .tables .tokens → r ≡ stoppedTurn f line slot t → First r mem′
+        first-nothing {t} e same r-is = from (was-nothing mem given (sym told ∙ e)) (rw (r-is, left) (stopped t same mem (takenMemory mem given)))
 
-        pub first-took : {k : ℕ} {t : Tables} → a ≡ Taken.Took k t →
-            ((m m′ : List ℕ) → chosenOf r m′ ≡ startFirst memorySource (machineOf s m) (line .0) (Took k (t, m′))) → First r mem′
-        first-took {k} {t} e r-is =
-            r-is mem mem′ ∙ ap (λ m. startFirst memorySource (machineOf s mem) (line .0) (Took k (t, m))) left
-            ∙ ap (startFirst memorySource (machineOf s mem) (line .0)) (sym (took-given e))
+        pub first-took : {k : ℕ} {t : Tables} {r : Turn} → a ≡ Taken.Took k t → t .tokens ≡ f .tables .tokens → f .placed < f .tables .tokens →
+            r ≡ takenTurn f line k t → First r mem′
+        first-took {k} {t} e same room r-is = from (was-took mem given (sym told ∙ e)) (rw (r-is, left) (taken t k same room mem (takenMemory mem given)))
 
-    -- at pipe 0, and later
-    pub start-first : {x : rules.Chosen tables.State} → here .pipe .0 ≡ 0 → x ≡ startFirst memorySource (machineOf s mem) (line .0) given →
-        x ≡ start memorySource (machineOf s mem) (line .0)
-    unfolding start machineOf
-    start-first e h = rw (eq-eqb (here .pipe .0) 0 e) h
+      -- at pipe 0, and later
+      pub start-first : {c : rules.Chosen tables.State} → slot .pipe .0 ≡ 0 → c ≡ startFirst memorySource (machineOf s mem) (line .0) given →
+          c ≡ start memorySource (machineOf s mem) (line .0)
+      unfolding start machineOf
+      start-first e h = rw (at, eq-eqb (slot .pipe .0) 0 e) h
 
-    pub start-later : {x : rules.Chosen tables.State} → (here .pipe .0 ≡ 0 → ⊥) → x ≡ startLater memorySource (machineOf s mem) (line .0) here →
-        x ≡ start memorySource (machineOf s mem) (line .0)
-    unfolding start machineOf
-    start-later n h = rw (ne-eqb (here .pipe .0) 0 n) h
+      pub start-later : {r : Turn} → (slot .pipe .0 ≡ 0 → ⊥) → r ≡ startedTurn f line slot →
+          chosenOf (turned s (line .0) r) mem ≡ start memorySource (machineOf s mem) (line .0)
+      unfolding start machineOf
+      start-later n r-is = rw (r-is, at, ne-eqb (slot .pipe .0) 0 n) (started slot mem)

@@ -1,61 +1,41 @@
--- `engine::ranges::counters_sound` meets its contract. The invariant: all counters below i are sound.
-use mathlib.Core.Bool.{true}
-use mathlib.Core.Path.{_≡_}
-use Prim.Native.Nat.{_-_, _≤_}
-use native.Mathlib.Omega.{arith}
-use borrow.Author.Tests.{le-leb, lt-leb}
+-- `engine::ranges::counters_sound` meets its contract.
+use borrow.Author.Tests.{not-true, not-false}
 use borrow.Author.Needs.{needs}
-use Rattle.rules.specs.Ranges.{counterSound}
-use Rattle.rules.specs.Lists.{every}
-use Rattle.rules.proofs.lists.EveryBelow.{every-none, every-more, every-done, every-fails}
+use mathlib.Core.Path.{sym, _∙_}
+use Rattle.engine.proofs.in_range.Rows.{from-none}
+use Rattle.engine.proofs.in_range.CounterLaws.{counters-are}
 use Rattle.engine.proofs.ranges.counters_sound.Statement.{statement}
 use Rattle.engine.proofs.ranges.counters_sound.Tie as tie
 
-abbrev Inv-loop : tie.InvT-loop
-Inv-loop serial pipes lines counters i₀ i = (i ≤ 512) × (every i (counterSound pipes lines serial counters) ≡ true)
+most-row-requires : tie.Need-most-row-requires
+most-row-requires c κs = search needs
 
-abbrev μ-loop : tie.MeasureT-loop
-μ-loop serial pipes lines counters i₀ i = 512 - i
+rows-sound-requires : tie.Need-rows-sound-requires
+rows-sound-requires c κs = search needs
 
-loop-holds : tie.Need-loop-holds Inv-loop μ-loop
-loop-holds c = (omega arith, every-none _)
+returns : tie.Need-returns
+returns c =
+    let after-most-row = c .before .before .before in
+    rw (
+      counters-are _ _ _ _ (after-most-row .before .pre),
+      ← after-most-row .most-row .ensures,
+      sym (from-none _ _) ∙ sym (c .before .rows-sound .ensures) ∙ not-true _ (c .if1 .taken),
+    )
 
-most-at-requires : tie.Need-most-at-requires Inv-loop μ-loop
-most-at-requires c κs = search needs
+rows-sound-requires-2 : tie.Need-rows-sound-requires-2
+rows-sound-requires-2 c κs = search needs
 
-array-read-counter : tie.Need-array-read-counter Inv-loop μ-loop
-array-read-counter c = omega arith
-
-add-i : tie.Need-add-i Inv-loop μ-loop
-add-i c = omega arith
-
-loop-less : tie.Need-loop-less Inv-loop μ-loop
-loop-less c = omega arith
-
-loop-again : tie.Need-loop-again Inv-loop μ-loop
-unfolding counterSound
-loop-again c =
-    let at-loop = c .before .before .before in
-    (omega arith, every-more _ _ (at-loop .loop .inv .1) (rw (← c .before .most-at .ensures) (le-leb _ _ (c .if1 .taken))))
-
-returns : tie.Need-returns Inv-loop μ-loop
-unfolding counterSound
-returns c = every-fails _ 512 (c .before .before .before .loop .i) (omega arith) (rw (← c .before .most-at .ensures) (lt-leb _ _ (c .if1 .left)))
-
-returns-2 : tie.Need-returns-2 Inv-loop μ-loop
-returns-2 c = every-done _ 512 (c .before .loop .i) (omega arith) (omega arith) (c .before .loop .inv .1)
+returns-2 : tie.Need-returns-2
+returns-2 c =
+    let at-if1 = c .before .before in
+    let after-most-row = at-if1 .before .before .before in
+    rw (
+      counters-are _ _ _ _ (after-most-row .before .pre),
+      ← after-most-row .most-row .ensures,
+      sym (from-none _ _) ∙ sym (at-if1 .before .rows-sound .ensures) ∙ not-false _ (at-if1 .if1 .left),
+    ) (c .rows-sound2 .ensures)
 
 pub counters-sound-spec : {M : Type 1} → statement M
 counters-sound-spec =
     tie.close
-    (tie.spec
-    Inv-loop
-    μ-loop
-    loop-holds
-    most-at-requires
-    array-read-counter
-    add-i
-    loop-less
-    loop-again
-    returns
-    returns-2)
+    (tie.spec most-row-requires rows-sound-requires returns rows-sound-requires-2 returns-2)

@@ -1,12 +1,15 @@
 -- `engine::ranges::is_idle` meets its contract.
+use borrow.Author.Tests.{ne-eqb}
+use mathlib.Core.Path.{sym}
+use mathlib.Core.Bool.{false, not}
 use Rattle.rules.specs.Ranges.{isIdle}
-use Rattle.rules.proofs.lists.Tests.{tests}
+use Rattle.rules.proofs.lists.Tests.{tests, if-same}
 use Rattle.engine.proofs.ranges.is_idle.Statement.{statement}
 use Rattle.engine.proofs.ranges.is_idle.Tie as tie
 
 returns : tie.Need-returns
 unfolding isIdle
-returns c = search tests depth 12
+returns c = rw (ne-eqb _ 0 (c .if1 .taken)) (sym (if-same (not (c .before .before .args .s .running)) false))
 
 returns-2 : tie.Need-returns-2
 unfolding isIdle

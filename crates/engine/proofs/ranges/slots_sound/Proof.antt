@@ -1,62 +1,26 @@
--- `engine::ranges::slots_sound` meets its contract. The invariant: all slots below l are sound.
-use mathlib.Core.Bool.{true}
-use mathlib.Core.Path.{_≡_, sym, _∙_}
-use Prim.Native.Nat.{_-_, _≤_}
-use native.Mathlib.Omega.{arith}
+-- `engine::ranges::slots_sound` meets its contract.
+use borrow.Author.Tests.{not-true, not-false}
 use borrow.Author.Needs.{needs}
-use Rattle.rules.specs.Ranges.{slotSound}
-use Rattle.rules.specs.Lists.{every}
-use Rattle.rules.proofs.lists.EveryBelow.{every-none, every-more, every-done, every-fails}
+use mathlib.Core.Path.{sym, _∙_}
+use Rattle.engine.proofs.in_range.SlotLaws.{slots-are}
 use Rattle.engine.proofs.ranges.slots_sound.Statement.{statement}
 use Rattle.engine.proofs.ranges.slots_sound.Tie as tie
 
-abbrev Inv-loop : tie.InvT-loop
-Inv-loop pipes lines tokens slots l₀ l = (l ≤ 32) × (every l (slotSound pipes lines tokens slots) ≡ true)
+used-slots-sound-requires : tie.Need-used-slots-sound-requires
+used-slots-sound-requires c κs = search needs
 
-abbrev μ-loop : tie.MeasureT-loop
-μ-loop pipes lines tokens slots l₀ l = 32 - l
+returns : tie.Need-returns
+returns c = rw (slots-are _ _ _ _ (c .before .before .pre .1), sym (c .before .used-slots-sound .ensures) ∙ not-true _ (c .if1 .taken))
 
-loop-holds : tie.Need-loop-holds Inv-loop μ-loop
-loop-holds c = (omega arith, every-none _)
+unused-slots-sound-requires : tie.Need-unused-slots-sound-requires
+unused-slots-sound-requires c κs = search needs
 
-mul-slot : tie.Need-mul-slot Inv-loop μ-loop
-mul-slot c = search needs
-
-array-copy-out-slot : tie.Need-array-copy-out-slot Inv-loop μ-loop
-array-copy-out-slot c = omega arith
-
-slot-sound-requires : tie.Need-slot-sound-requires Inv-loop μ-loop
-slot-sound-requires c κs = search needs
-
-add-l : tie.Need-add-l Inv-loop μ-loop
-add-l c = omega arith
-
-loop-less : tie.Need-loop-less Inv-loop μ-loop
-loop-less c = omega arith
-
-loop-again : tie.Need-loop-again Inv-loop μ-loop
-unfolding slotSound
-loop-again c = (omega arith, every-more _ _ (c .before .before .before .before .loop .inv .1) (sym (c .before .slot-sound .ensures) ∙ c .if1 .taken))
-
-returns : tie.Need-returns Inv-loop μ-loop
-unfolding slotSound
-returns c = every-fails _ 32 (c .before .before .before .before .loop .l) (omega arith) (sym (c .before .slot-sound .ensures) ∙ c .if1 .left)
-
-returns-2 : tie.Need-returns-2 Inv-loop μ-loop
-returns-2 c = every-done _ 32 (c .before .loop .l) (omega arith) (omega arith) (c .before .loop .inv .1)
+returns-2 : tie.Need-returns-2
+returns-2 c =
+    let after-used = c .before .before in
+    rw (slots-are _ _ _ _ (after-used .before .pre .1), sym (after-used .used-slots-sound .ensures) ∙ not-false _ (c .before .if1 .left))
+    (c .unused-slots-sound .ensures)
 
 pub slots-sound-spec : {M : Type 1} → statement M
 slots-sound-spec =
-    tie.close
-    (tie.spec
-    Inv-loop
-    μ-loop
-    loop-holds
-    mul-slot
-    array-copy-out-slot
-    slot-sound-requires
-    add-l
-    loop-less
-    loop-again
-    returns
-    returns-2)
+    tie.close (tie.spec used-slots-sound-requires returns unused-slots-sound-requires returns-2)

@@ -12,13 +12,10 @@ use Rattle.engine.proofs.running.all_still.Statement.{statement}
 use Rattle.engine.proofs.running.all_still.Tie as tie
 
 abbrev Inv-loop : tie.InvT-loop
-Inv-loop s lines l₀ l = (l ≤ lines) × (every l (isStill s) ≡ true)
+Inv-loop lines counters slots lines' l₀ l = (l ≤ lines') × (every l (isStill counters slots) ≡ true)
 
 abbrev μ-loop : tie.MeasureT-loop
-μ-loop s lines l₀ l = lines - l
-
-cast-lines : tie.Need-cast-lines Inv-loop μ-loop
-cast-lines c = search needs
+μ-loop lines counters slots lines' l₀ l = lines' - l
 
 loop-holds : tie.Need-loop-holds Inv-loop μ-loop
 loop-holds c = (omega arith, every-none _)
@@ -30,8 +27,8 @@ returns c = every-fails _ _ (c .before .before .loop .l) (omega arith) (sym (sea
 mul-slot : tie.Need-mul-slot Inv-loop μ-loop
 mul-slot c = search needs
 
-element-copy-out-slot : tie.Need-element-copy-out-slot Inv-loop μ-loop
-element-copy-out-slot c = search needs
+array-copy-out-slot : tie.Need-array-copy-out-slot Inv-loop μ-loop
+array-copy-out-slot c = search needs
 
 cast-pipe : tie.Need-cast-pipe Inv-loop μ-loop
 cast-pipe c = search needs
@@ -78,11 +75,10 @@ all-still-spec =
     (tie.spec
     Inv-loop
     μ-loop
-    cast-lines
     loop-holds
     returns
     mul-slot
-    element-copy-out-slot
+    array-copy-out-slot
     cast-pipe
     returns-2
     returns-3

@@ -4,31 +4,20 @@ use Rattle.engine.proofs.moves.StartLaws as laws
 use Rattle.engine.proofs.starting.start_at.Statement.{statement}
 use Rattle.engine.proofs.starting.start_at.Tie as tie
 
-cast-l : tie.Need-cast-l
-cast-l c = search needs
-
 cast-refill : tie.Need-cast-refill
 cast-refill c = search needs
+
+cast-refill-2 : tie.Need-cast-refill-2
+cast-refill-2 c = search needs
 
 refill-requires : tie.Need-refill-requires
 refill-requires c κs = search needs
 
-mul-t10 : tie.Need-mul-t10
-mul-t10 c = search needs
-
-element-set-from-next : tie.Need-element-set-from-next
-element-set-from-next c = search needs
-
 returns : tie.Need-returns
-returns c = laws.started-is _ _ _ (c .refill .ensures)
+returns c =
+    let after-refill = c .before in
+    let start = after-refill .before .before .before .before .before .before in
+    laws.started-with (start .args .f) (start .args .line) (start .args .slot) (after-refill .refill .ensures)
 
 pub start-at-spec : {M : Type 1} → statement M
-start-at-spec =
-    tie.close
-    (tie.spec
-    cast-l
-    cast-refill
-    refill-requires
-    mul-t10
-    element-set-from-next
-    returns)
+start-at-spec = tie.close (tie.spec cast-refill cast-refill-2 refill-requires returns)

@@ -1,0 +1,70 @@
+-- A choice worked out on the parts of a state, and made of the whole.
+use mathlib.Core.Path.{_≡_}
+use mathlib.Core.List.{List}
+use Prim.Native.Nat.{ℕ, _<_, _≤_}
+use lib.ListN.{getD, set}
+use Rattle.rules.specs.declared.Slot.{Slot}
+use Rattle.rules.specs.RunState.{Machine, idle}
+use Rattle.rules.specs.Choices as rules
+use Rattle.tables.specs.State as tables
+use Rattle.engine.specs.declared.State.{State}
+use Rattle.engine.specs.declared.Chosen.{Chosen}
+use Rattle.engine.specs.declared.turn.Figures.{Figures}
+use Rattle.engine.specs.declared.turn.Change.{Change}
+use Rattle.engine.specs.declared.turn.Turn.{Turn}
+use Rattle.engine.specs.declared.turn.Turn.the-variants.{Refused, Made}
+use Rattle.engine.specs.Machines.{machineOf, refusedBy, chosenOf}
+
+-- the state of its parts
+abbrev pub whole : Figures → List ℕ → List Slot → State
+whole f counters slots = record {
+  pipes = f .pipes;
+  lines = f .lines;
+  workers = f .workers;
+  serial = f .serial;
+  counters = counters;
+  slots = slots;
+  placed = f .placed;
+  stopped = f .stopped;
+  tables = f .tables;
+}
+
+-- a line of the plan, at a pipe of the plan
+pub record Ready (f : Figures) (slot : Slot) (l : ℕ) : Type 0 where
+  pub lines : f .lines ≤ 32
+  pub pipes : f .pipes ≤ 16
+  pub line : l < f .lines
+  pub pipe : slot .pipe .0 < f .pipes
+
+-- the counters after a change
+abbrev pub recounted : List ℕ → Change → List ℕ
+recounted counters c = set (set counters (c .first .at) (c .first .value)) (c .second .at) (c .second .value)
+
+-- what a turn of a line makes of a state
+abbrev pub turned : State → ℕ → Turn → Chosen
+turned s l (Refused why) = refusedBy s why
+turned s l (Made c) = record {
+  answer = c .answer;
+  state = record {
+    pipes = s .pipes;
+    lines = s .lines;
+    workers = s .workers;
+    serial = s .serial;
+    counters = recounted (s .counters) c;
+    slots = set (s .slots) l (c .slot);
+    placed = c .placed;
+    stopped = c .stopped;
+    tables = c .tables;
+  };
+}
+
+-- its counters and its slot are within the state's tables
+abbrev pub Fits : ℕ → Turn → Type 0
+Fits l (Refused why) = Unit {0}
+Fits l (Made c) = (c .first .at < 512) × (c .second .at < 512) × (l < 32)
+
+-- a turn is what a rule makes of the line, in every state with these figures and counters where the line has this slot
+abbrev pub Follows : (Machine tables.State → ℕ → rules.Chosen tables.State) → Figures → List ℕ → ℕ → Slot → Turn → List ℕ → List ℕ → Type 0
+Follows rule f counters l slot turn m m′ =
+    (slots : List Slot) → getD slots l idle ≡ slot →
+    chosenOf (turned (whole f counters slots) l turn) m′ ≡ rule (machineOf (whole f counters slots) m) l

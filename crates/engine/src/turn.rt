@@ -1,0 +1,38 @@
+// A choice is worked out on the parts of a state and made then, so that a state is copied as seldom as can be.
+use rules::Answer;
+use rules::Refusal;
+use rules::Slot;
+use tables::Tables;
+
+// The state but for its counters and slots.
+pub struct Figures {
+    pub pipes: u16,
+    pub lines: u16,
+    pub workers: u16,
+    pub serial: [bool; 16],
+    pub placed: u16,
+    pub stopped: bool,
+    pub tables: Tables,
+}
+
+// A counter's place among all counters, and its new value.
+pub struct Cell {
+    pub at: usize,
+    pub value: u8,
+}
+
+// What an accepted choice answers, and what it changes: two counters (or one, twice), the line's slot, and the numbers.
+pub struct Change {
+    pub answer: Answer,
+    pub first: Cell,
+    pub second: Cell,
+    pub slot: Slot,
+    pub placed: u16,
+    pub stopped: bool,
+    pub tables: Tables,
+}
+
+pub enum Turn {
+    Refused(Refusal),
+    Made(Change),
+}
