@@ -4,5 +4,7 @@ pub mod in_range
 pub mod moves
 -- an opening;
 pub mod openings
+-- a list of choices, one at a time;
+pub mod Feeding
 -- and every session of the code is as the demands say.
 pub mod CodeRuns

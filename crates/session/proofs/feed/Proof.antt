@@ -6,7 +6,7 @@ use lib.ListN.{length, drop}
 use Rattle.rules.specs.Choices.{follow}
 use Rattle.tables.specs.Calls.{memorySource}
 use Rattle.engine.specs.Machines.{machineOf}
-use Rattle.session.proofs.Feeding.{follow-turn, follow-end}
+use Rattle.engine.proofs.Feeding.{follow-turn, follow-end}
 use borrow.Author.Needs.{needs}
 use Rattle.session.proofs.feed.Statement.{statement}
 use Rattle.session.proofs.feed.Tie as tie

@@ -1,2 +1,0 @@
--- Choices fed one at a time.
-pub mod Feeding

@@ -1,0 +1,131 @@
+//! Plans, written as files, and lists of choices.
+
+use crate::plain::{Answer, Run};
+
+pub const SERIAL: u8 = 83;
+pub const PARALLEL: u8 = 80;
+
+/// Nothing here is checked, so that bad files can be written too.
+#[derive(Clone, Debug)]
+pub struct Plan {
+    pub pipes: Vec<u8>,
+    pub lines: u16,
+    pub tokens: u16,
+    /// A token and the numbers that it is deferred to.
+    pub records: Vec<(u16, Vec<u16>)>,
+}
+
+impl Plan {
+    pub fn file(&self) -> Vec<u8> {
+        let mut file = Vec::new();
+        for (token, numbers) in &self.records {
+            put(&mut file, *token);
+            put(&mut file, numbers.len() as u16);
+            for &number in numbers {
+                put(&mut file, number);
+            }
+        }
+        let start = file.len() as u16;
+        file.extend(&self.pipes);
+        let edition = 1;
+        for number in [
+            start,
+            self.pipes.len() as u16,
+            self.lines,
+            self.tokens,
+            self.records.len() as u16,
+            edition,
+        ] {
+            put(&mut file, number);
+        }
+        file
+    }
+}
+
+/// Two bytes, low byte first.
+fn put(file: &mut Vec<u8>, number: u16) {
+    file.extend(number.to_le_bytes());
+}
+
+/// 16 pipes and 32 lines. Pipe 0 is serial, pipe 1 parallel, and so on by turns.
+fn wide(tokens: u16, records: Vec<(u16, Vec<u16>)>) -> Plan {
+    let pipes = (0..16).map(|pipe| if pipe % 2 == 0 { SERIAL } else { PARALLEL });
+    Plan { pipes: pipes.collect(), lines: 32, tokens, records }
+}
+
+pub fn undeferred(tokens: u16) -> Plan {
+    wide(tokens, Vec::new())
+}
+
+/// Every third token waits for the one two on and the one nine on.
+pub fn every_third(tokens: u16) -> Plan {
+    let deferred = (0..tokens - 9).step_by(3);
+    wide(tokens, deferred.map(|t| (t, vec![t + 2, t + 9])).collect())
+}
+
+/// 2,048 tokens wait for four each of the last 128, 8,192 numbers in all, so that they stay
+/// deferred till nearly all others have passed.
+pub fn long_deferred() -> Plan {
+    let list = |t: u16| (0..4).map(|k| 3968 + (4 * t + k) % 128).collect();
+    wide(4096, (0..2048).map(|t| (t, list(t))).collect())
+}
+
+/// Chance with a fixed seed.
+pub struct Chance(pub u32);
+
+impl Chance {
+    /// A number below the limit, which is at most 65,536.
+    pub fn below(&mut self, limit: usize) -> usize {
+        self.0 = self.0.wrapping_mul(1_664_525).wrapping_add(1_013_904_223);
+        // The low bits of such a sequence have short periods.
+        (self.0 >> 16) as usize % limit
+    }
+
+    pub fn one_in(&mut self, often: usize) -> bool {
+        self.below(often) == 0
+    }
+
+    pub fn pick<T: Copy>(&mut self, things: &[T]) -> T {
+        things[self.below(things.len())]
+    }
+}
+
+/// The lines whose choice would be accepted now.
+pub fn allowed(run: &Run) -> Vec<u8> {
+    (0..run.lines() as u8).filter(|&line| run.refusal(line).is_none()).collect()
+}
+
+/// Each choice is drawn from all that are allowed, until the run has ended.
+pub fn random_order(file: &[u8], workers: u16, seed: u32) -> Vec<u8> {
+    let mut chance = Chance(seed);
+    let mut run = Run::open(file, workers);
+    let mut choices = Vec::new();
+    while !run.ended() {
+        let line = chance.pick(&allowed(&run));
+        run.choose(line);
+        choices.push(line);
+    }
+    choices
+}
+
+/// The one-worker run, to be opened with W = 1: each token in order goes through all pipes on its
+/// line, and after the last the next line stops.
+pub fn one_worker_order(file: &[u8]) -> Vec<u8> {
+    let mut run = Run::open(file, 1);
+    let mut choices = Vec::new();
+    let mut line = 0;
+    loop {
+        for _ in 0..2 * run.pipes() {
+            choices.push(line as u8);
+            match run.choose(line as u8) {
+                Answer::Started(_) | Answer::Finished(_) => {}
+                Answer::Stopped(_) => {
+                    assert!(run.ended(), "the stop of the one-worker run ends it");
+                    return choices;
+                }
+                Answer::Refused(number) => panic!("the one-worker run got {number}"),
+            }
+        }
+        line = (line + 1) % run.lines();
+    }
+}
