@@ -9,6 +9,5 @@ pub mod Sound
 -- the file of a valid plan passes;
 pub mod CompleteParts
 pub mod Complete
--- the theorem, and the definitions at examples.
+-- the theorem.
 pub mod Theorem
-pub mod Examples

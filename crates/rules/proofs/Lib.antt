@@ -7,7 +7,5 @@ pub mod standing
 pub mod invariant
 pub mod choices
 pub mod runs
--- related sources give related runs;
+-- and related sources give related runs.
 pub mod sources
--- and the plans with known orders.
-pub mod KnownOrders

@@ -15,7 +15,5 @@ pub mod Answers
 pub mod PlainSheet
 pub mod Chains
 pub mod WholeRuns
--- "Plans with known orders";
-pub mod KnownOrders
 -- and what it is for one source of tokens to do as another.
 pub mod RelatedSources

@@ -1,0 +1,4 @@
+-- The cases hold of the rules;
+pub mod KnownOrders
+-- and so do plan files, those that are read and one for each refusal.
+pub mod PlanFiles

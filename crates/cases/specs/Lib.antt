@@ -1,0 +1,2 @@
+-- "Plans with known orders".
+pub mod KnownOrders
