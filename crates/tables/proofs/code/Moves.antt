@@ -1,5 +1,5 @@
 -- The passes of a release, one after the other: together they leave the memory of `movedMemory`.
-use mathlib.Core.Path.{_≡_, refl, sym, ap, _∙_}
+use mathlib.Core.Path.{_≡_, refl, sym, ap, ap₂, _∙_}
 use mathlib.Core.Bool.{Bool, true, false, not}
 use mathlib.Core.List.{List, [], _∷_}
 use Prim.Native.Nat.{ℕ, suc, _+_, _-_, _<_, _≤_}
@@ -14,7 +14,7 @@ use Rattle.tables.specs.declared.Tables.{Tables}
 use Rattle.tables.specs.declared.Test.{Test}
 use Rattle.tables.specs.Facts.{wakesOf}
 use Rattle.tables.specs.State.{InRange, marks, tableOf}
-use Rattle.tables.specs.Releasing.{isYes, wokenOf, stayingOf, wokenIn, stayingIn, movedTables, movedMemory}
+use Rattle.tables.specs.Releasing.{isYes, wokenOf, stayingOf, wokenIn, stayingIn, movedBy, movedTables, movedMemory}
 use Rattle.tables.proofs.memory.Cells.{take-sets, drop-sets, slice-before, slice-from, slice-sets, sets-slice}
 use Rattle.rules.proofs.lists.Tests.{by-test}
 
@@ -27,6 +27,9 @@ keep-length p (a ∷ l) = go (p a) (keep-length p l)
     go : (b : Bool) → length (keep p l) ≤ length l → length (if b (a ∷ keep p l) (keep p l)) ≤ suc (length l)
     go true h = omega arith
     go false h = omega arith
+
+keep-most : {A : Type 0} (p : A → Bool) (l : List A) {k : ℕ} → length l ≡ k → length (keep p l) ≤ k
+keep-most p l h = omega (arith, keep-length p l)
 
 keep-below : (n : ℕ) (p : ℕ → Bool) → ((t : ℕ) → p t ≡ true → t < n) → (l : List ℕ) → Below n (keep p l)
 unfolding keep
@@ -54,11 +57,32 @@ wakes-below f tokens d t = go (leb tokens t) refl _
     go true e x h = let z : _≡_ {A = ℕ} 0 1 = cc in omega arith
     go false e x h = leb-false tokens t e
 
+-- the number of those that stay fits 16 bits
+pub held-fits : {kept held : ℕ} → kept ≤ 24576 + held → held ≤ 4096 → kept - 24576 < 65536
+held-fits low most = omega arith
+
+-- nothing moves where none wakes and all stay, over plain variables: the lists of a release are long to compare
+same-tables : (t : Tables) {woken staying : ℕ} → woken ≡ 0 → staying ≡ t .held
+    → t ≡ record { tokens = t .tokens; count = t .count; first = t .first; end = t .end + woken; held = staying }
+same-tables t none all = rw (none, all, add-zero (t .end))
+
+same-memory : (m : List ℕ) (end held d : ℕ) {woken staying : List ℕ} → 24576 + held ≤ length m → woken ≡ [] → staying ≡ slice 24576 (24576 + held) m
+    → length staying ≡ held → set m (20480 + d) 3 ≡ movedBy m end held d woken staying
+unfolding marks
+same-memory m end held d inside none all long =
+    let gone : held - held ≡ 0 = omega arith in
+    rw (none, long, gone, all, sets-slice m 24576 held inside)
+
 module _ (t : Tables) (d : ℕ) (m : List ℕ) (ok : InRange t) (whole : 32768 ≤ length m) where
+  table-inside : 24576 + t .held ≤ length m
+  table-inside = omega (arith, ok .held)
+
+  table-length : length (tableOf t m) ≡ t .held
+  table-length = length-slice 24576 (24576 + t .held) m table-inside ∙ omega arith
+
   pub staying-length : length (stayingIn t d m) ≤ t .held
   unfolding stayingOf
-  staying-length = omega
-      (arith, keep-length (λ n. not (isYes (wakesOf (take 24576 m) (t .tokens) d n))) (tableOf t m), length-slice 24576 (24576 + t .held) m (omega arith))
+  staying-length = keep-most (λ n. not (isYes (wakesOf (take 24576 m) (t .tokens) d n))) (tableOf t m) table-length
 
   pub woken-below : Below 4096 (wokenIn t d m)
   unfolding wokenOf
@@ -75,28 +99,25 @@ module _ (t : Tables) (d : ℕ) (m : List ℕ) (ok : InRange t) (whole : 32768 �
     unfolding wokenOf stayingOf
     staying-all = keep-none (λ n. isYes (wakesOf (take 24576 m) (t .tokens) d n)) (tableOf t m) asleep .1
 
-    table-length : length (tableOf t m) ≡ t .held
-    table-length = length-slice 24576 (24576 + t .held) m (omega arith) ∙ omega arith
+    staying-held : length (stayingIn t d m) ≡ t .held
+    staying-held = ap length staying-all ∙ table-length
 
     pub none-tables : t ≡ movedTables t d m
     unfolding movedTables
-    none-tables = rw (woken-none, staying-all, table-length, add-zero (t .end))
+    none-tables = same-tables t asleep staying-held
 
     pub none-memory : set m (20480 + d) 3 ≡ movedMemory t d m
-    unfolding movedMemory marks
-    none-memory =
-        let gone : t .held - t .held ≡ 0 = omega arith in
-        rw (woken-none, staying-all, sets-slice m 24576 (t .held) (omega arith), table-length, gone)
+    unfolding movedMemory
+    none-memory = same-memory m (t .end) (t .held) d table-inside woken-none staying-all staying-held
 
   module _ {m₁ : List ℕ} (queued : m₁ ≡ sets m (28672 + t .end) (wokenIn t d m)) where
     -- the facts and the deferred table are still as they were
     pub staying-same : stayingOf (wakesOf (take 24576 m₁) (t .tokens) d) (slice 24576 (24576 + t .held) m₁) ≡ stayingIn t d m
     staying-same =
-        rw (
-          queued,
-          take-sets (wokenIn t d m) m (28672 + t .end) 24576 (omega arith),
-          slice-before (wokenIn t d m) m (28672 + t .end) 24576 (24576 + t .held) (omega arith),
-        )
+        ap₂ (λ f l. stayingOf (wakesOf f (t .tokens) d) l)
+        (ap (take 24576) queued ∙ take-sets (wokenIn t d m) m (28672 + t .end) 24576 (omega arith))
+        (ap (slice 24576 (24576 + t .held)) queued
+        ∙ slice-before (wokenIn t d m) m (28672 + t .end) 24576 (24576 + t .held) (omega (arith, ok .held)))
 
     module _ {kept : ℕ} (ends : kept ≡ 24576 + length (stayingOf (wakesOf (take 24576 m₁) (t .tokens) d) (slice 24576 (24576 + t .held) m₁))) where
       pub kept-is : kept ≡ 24576 + length (stayingIn t d m)

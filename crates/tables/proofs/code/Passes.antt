@@ -38,6 +38,13 @@ pub record Closing (m₀ : List ℕ) (tokens d last : ℕ) (m : List ℕ) (at ce
   pub end : 24576 + length (stayingFrom m₀ tokens d 24576 last) ≡ at + length (stayingFrom m₀ tokens d cell last)
   pub left : sets m₀ 24576 (stayingFrom m₀ tokens d 24576 last) ≡ sets m at (stayingFrom m₀ tokens d cell last)
 
+-- the memory is as long as it was lent
+pub append-whole : {m₀ : List ℕ} {tokens d last end : ℕ} {m : List ℕ} {at cell : ℕ} → Appending m₀ tokens d last end m at cell → 32768 ≤ length m
+append-whole inv = omega (arith, inv .long, inv .whole)
+
+pub close-whole : {m₀ : List ℕ} {tokens d last : ℕ} {m : List ℕ} {at cell : ℕ} → Closing m₀ tokens d last m at cell → 32768 ≤ length m
+close-whole inv = omega (arith, inv .long, inv .whole)
+
 module _ {m₀ : List ℕ} {tokens d last : ℕ} {m : List ℕ} {at cell : ℕ} {r : Bool} where
   module _ {end : ℕ} (inv : Appending m₀ tokens d last end m at cell) (more : cell < last)
       (test : r ≡ isYes (wakesOf (take 24576 m) tokens d (getD m cell 0))) where
@@ -50,8 +57,8 @@ module _ {m₀ : List ℕ} {tokens d last : ℕ} {m : List ℕ} {at cell : ℕ} 
     first-wakes : r ≡ true → wokenFrom m₀ tokens d cell last ≡ getD m₀ cell 0 ∷ wokenFrom m₀ tokens d (cell + 1) last
     first-wakes e = woken-yes (wakesOf (take 24576 m₀) tokens d) m₀ cell last more (omega arith) test₀ e
 
-    pub append-room : r ≡ true → at < 32768
-    append-room e = omega (arith, ap length (first-wakes e), inv .room)
+    pub append-room : r ≡ true → at < length m
+    append-room e = omega (arith, ap length (first-wakes e), inv .room, inv .long, inv .whole)
 
     pub append-yes : r ≡ true → Appending m₀ tokens d last end (set m at (getD m cell 0)) (at + 1) (cell + 1)
     append-yes e =

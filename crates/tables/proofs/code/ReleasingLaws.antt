@@ -27,6 +27,13 @@ cells-end m cell last l h = let e : cell ≡ last = omega arith in rw e (slice-e
 pub cells-next : (m : List ℕ) (cell last : ℕ) → cell < last → last ≤ length m → slice cell last m ≡ getD m cell 0 ∷ slice (cell + 1) last m
 cells-next m cell last h l = rw (add-one cell) (slice-cons cell last m 0 h l)
 
+-- the deferred table lies in the memory, and a count of its tokens is at most its cells
+pub table-within : {last : ℕ} (m : List ℕ) → 32768 ≤ length m → last ≤ 28672 → last ≤ length m
+table-within m whole inside = omega arith
+
+pub count-next : (n : ℕ) {cell last : ℕ} → 24576 + n ≤ cell → cell < last → (cell + 1 ≤ last) × (24576 + (n + 1) ≤ cell + 1) × (24576 + n ≤ cell + 1)
+count-next n few more = omega arith
+
 -- the tally, with the cells from one on left
 module _ {whole : Count} (wakes : ℕ → Test) (n : ℕ) (m : List ℕ) (cell last : ℕ) (left : whole ≡ tallyOf wakes n (slice cell last m)) where
   pub tally-end : cell ≤ last → last ≤ cell → Count.Known n ≡ whole

@@ -163,7 +163,9 @@ module _ (tokens : ℕ) (numbers : ℕ → List ℕ) (a : rules.Tables) (t : Tab
     standing-left : standingOf (take 24576 left) ≡ marked (standingOf (take 24576 m)) 1 passed
     unfolding left
     standing-left =
-        fun-ext (λ n. standing-marks entered 1 passed (rw entered-length (p .whole)) passed-below n ∙ rw facts-entered)
+        fun-ext (λ n.
+        standing-marks entered 1 passed (subst (λ k. 32768 ≤ k) (sym entered-length) (p .whole)) passed-below n
+        ∙ ap (λ f. marked (standingOf f) 1 passed n) facts-entered)
 
     table-left : slice 24576 (24576 + (t .held + k)) left ≡ tokensOf (a .deferred) ++ passed
     unfolding entered passed
@@ -173,7 +175,9 @@ module _ (tokens : ℕ) (numbers : ℕ → List ℕ) (a : rules.Tables) (t : Tab
         (arith, passed-length, p .room, p .count, p .range .tokens, p .size, p .whole) in
         slice-same entered left 24576 24576 (24576 + (t .held + k)) tables-left (omega arith) (omega arith)
         (omega (arith, entered-length, passed-length)) (left-length ∙ sym entered-length)
-        ∙ (rw (← ends, p .table) at (slice-append (range (a .count) k) m 24576 (24576 + t .held) (omega arith) fits))
+        ∙ ap (λ e. slice 24576 e entered) ends
+        ∙ slice-append (range (a .count) k) m 24576 (24576 + t .held) (omega arith) fits
+        ∙ ap (λ l. l ++ passed) (p .table)
 
     deferred-match : (count′ : ℕ) → count′ ≡ count →
         Match tokens numbers (after numbers (take 24576 m) (a .count) a k count) (withCount t (a .count + k) count′, left) out

@@ -1,5 +1,5 @@
 -- What is lent beyond the first 32,768 numbers plays no part, and is left as it was.
-use mathlib.Core.Path.{_≡_, refl, sym, ap, _∙_}
+use mathlib.Core.Path.{_≡_, refl, sym, ap, ap₂, _∙_}
 use mathlib.Core.Bool.{true, false}
 use mathlib.Core.List.{List, [], _∷_, _++_}
 use Prim.Native.Nat.{ℕ, suc, _+_, _-_, _<_, _≤_}
@@ -8,16 +8,17 @@ use borrow.Author.Tests.{ltb-true, leb-true, leb-false}
 use lib.Dec.{leb, ltb}
 use lib.ListN.{length, take, drop, set, replicate, length-append, length-set, length-replicate, List·getD-append}
 use lib.Seq.{sets, length-sets, set-append-left, take-append-le}
-use Rattle.rules.specs.Lists.{has, range, Below}
+use Rattle.rules.specs.Lists.{any, has, range, Below}
 use Rattle.rules.specs.Sources.{Taken as Outcome, Spoiled, Nothing, Took, Released, Broken, Passed}
 use Rattle.rules.specs.RelatedSources.{mapTaken, mapReleased, Follows}
 use Rattle.rules.proofs.lists.Tests.{by-test}
 use Rattle.tables.specs.declared.Tables.{Tables}
 use Rattle.tables.specs.declared.Count.{Count}
 use Rattle.tables.specs.Layout.{factsOf}
+use Rattle.tables.specs.Facts.{wakesOf}
 use Rattle.tables.specs.State.{InRange, soundOf, span, marks, tableOf}
 use Rattle.tables.specs.Taking.{findOf, deferredUpto, oldestOf, takeUpto, takeReady, takeOf}
-use Rattle.tables.specs.Releasing.{wokenIn, stayingIn, unsoundIn, movedBy, movedTables, movedMemory, releaseOf}
+use Rattle.tables.specs.Releasing.{isUnsound, wokenOf, stayingOf, wokenIn, stayingIn, unsoundIn, movedBy, movedTables, movedMemory, releaseOf}
 use Rattle.tables.specs.Matching.{beyond}
 use Rattle.tables.specs.Calls.{safeTake, safeRelease, memorySource}
 use Rattle.rules.proofs.lists.Members.{below-range, length-range}
@@ -97,14 +98,17 @@ module _ (r : List ℕ) where
         (λ e. rw (e, facts-beyond) (upto-beyond (findOf (factsOf m) (t .tokens) (t .count)) refl))
 
     -- a token's finish
+    seen-same : {A : Type 0} (f : List ℕ → List ℕ → A) → f (factsOf (m ++ r)) (tableOf t (m ++ r)) ≡ f (factsOf m) (tableOf t m)
+    seen-same f = ap₂ f facts-beyond table-beyond
+
     woken-same : (d : ℕ) → wokenIn t d (m ++ r) ≡ wokenIn t d m
-    woken-same d = rw (facts-beyond, table-beyond)
+    woken-same d = seen-same (λ f l. wokenOf (wakesOf f (t .tokens) d) l)
 
     staying-same : (d : ℕ) → stayingIn t d (m ++ r) ≡ stayingIn t d m
-    staying-same d = rw (facts-beyond, table-beyond)
+    staying-same d = seen-same (λ f l. stayingOf (wakesOf f (t .tokens) d) l)
 
     unsound-same : (d : ℕ) → unsoundIn t d (m ++ r) ≡ unsoundIn t d m
-    unsound-same d = rw (facts-beyond, table-beyond)
+    unsound-same d = seen-same (λ f l. any (λ n. isUnsound (wakesOf f (t .tokens) d n)) l)
 
     moved-beyond : (d : ℕ) → d < t .tokens → t .end + length (wokenIn t d m) ≤ 4096 → movedMemory t d (m ++ r) ≡ movedMemory t d m ++ r
     unfolding movedMemory
