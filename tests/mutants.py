@@ -45,6 +45,18 @@ LONGEST_ABOVE = 1800
 # Survivors that are no gap: label -> (the line after the change, why). The line stands there so that
 # a label which comes to mean another change, as the code changes, is asked about again.
 KNOWN = {
+    "tables/taking.rt:take_ready:drop-1": (
+        "mem[STANDINGS + wide(token)] = 0;",
+        "the same code: `NO_MARK` is 0",
+    ),
+    "session/sink.rt:MODULUS:constant-2": (
+        "const MODULUS: u64 = 4294967290;",
+        "no contract speaks of the digest of what is printed; the stored output of vectors differs",
+    ),
+    "session/sink.rt:BASE:constant-2": (
+        "const BASE: u64 = 65598;",
+        "no contract speaks of the digest of what is printed; the stored output of vectors differs",
+    ),
     "session/sink.rt:written:constant-5": ("sum: 0,", "the sum of a sink that writes is never looked at"),
 }
 
