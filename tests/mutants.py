@@ -34,7 +34,7 @@ KINDS = ["comparison", "constant", "swap", "drop"]
 
 # Without --all a function with a contract gets one mutant, or two if many can be made of it. Of
 # constants, and of functions without a contract, there are some of each file.
-MANY = 15
+MANY = 20
 CONSTANTS_OF_FILE = 3
 UNPROVED_OF_FILE = 2
 
@@ -45,17 +45,9 @@ LONGEST_ABOVE = 1800
 # Survivors that are no gap: label -> (the line after the change, why). The line stands there so that
 # a label which comes to mean another change, as the code changes, is asked about again.
 KNOWN = {
-    "tables/taking.rt:take_ready:drop-1": (
-        "mem[STANDINGS + wide(token)] = 0;",
-        "the same code: `NO_MARK` is 0",
-    ),
-    "session/sink.rt:MODULUS:constant-2": (
-        "const MODULUS: u64 = 4294967290;",
-        "no contract speaks of the digest of what is printed; the stored output of vectors differs",
-    ),
-    "session/sink.rt:BASE:constant-2": (
-        "const BASE: u64 = 65598;",
-        "no contract speaks of the digest of what is printed; the stored output of vectors differs",
+    "tables/facts.rt:numbers_at:comparison-2": (
+        "if POSITIONS < place {",
+        "the same: at the place POSITIONS the next test but one, POSITIONS < place + 1 + count, holds whatever the count is",
     ),
     "session/sink.rt:written:constant-5": ("sum: 0,", "the sum of a sink that writes is never looked at"),
 }
@@ -123,7 +115,7 @@ def closing(text, opening):
     return None
 
 
-FUNCTION = re.compile(r"^(\s*)(?:pub(?:\(\w+\))? )?fn (\w+)\s*(?:<[^>]*>)?\(")
+FUNCTION = re.compile(r"^(\s*)(?:pub(?:\(\w+\))? )?(?:extern \"C\" )?fn (\w+)\s*(?:<[^>]*>)?\(")
 CONSTANT = re.compile(r"^\s*(?:pub(?:\(\w+\))? )?const (\w+): ([^=]+) = (\d+);")
 
 
@@ -185,8 +177,9 @@ class Program:
             self.lengths.update(re.findall(r"; ([A-Z][A-Z0-9_]*)\]", text))
         # A contract speaks of a constant if it speaks of a function that uses it.
         for constant in self.constants:
-            users = [f for f in self.functions if any(constant.name in line for line in body(f))]
-            constant.proved = any(f.proved for f in users)
+            name = re.compile(rf"\b{constant.name}\b")
+            seen = [f for f in self.functions if is_seen(constant, f.source)]
+            constant.proved = any(f.proved and name.search("\n".join(body(f))) for f in seen)
 
     def read_types(self, text):
         for found in re.finditer(r"\b(struct|enum) (\w+) (\{)", text):
@@ -217,6 +210,18 @@ class Program:
 
 def body(owner):
     return owner.source.code[owner.first : owner.last + 1]
+
+
+def is_seen(constant, source):
+    """Whether a file can use a constant: its own file, its crate, or all, as it is declared."""
+    line = constant.source.code[constant.first].lstrip()
+    if line.startswith("pub const"):
+        return True
+    return constant.source is source or (line.startswith("pub") and constant.source.crate == source.crate)
+
+
+def number_of(constant):
+    return CONSTANT.match(constant.source.code[constant.first]).group(3)
 
 
 def far(owner, source):
@@ -254,7 +259,9 @@ class Mutant:
         """Whether it is likely that the proof does not fit: a call or a long statement goes, or branches change places."""
         form = self.forms[0]
         if self.kind == "drop":
-            return len(form) > 1 or " = " not in self.old(form) and "+=" not in self.old(form)
+            left = self.old(form).split(" = ")[0]
+            steps = any(re.search(r"(?:= 0|= false|[-+] 0)[;,]$", self.new(f)) for f in self.forms)
+            return not steps and ("[" in left or len(form) > 1 or " = " not in self.old(form))
         return self.kind == "comparison" and "if !" in self.old(form) + self.new(form)
 
 
@@ -324,20 +331,13 @@ def constants(owner, program):
 def other_constant(program, owner, path, name):
     """The next constant of its file with its type and another value, by a path that reaches it from here."""
     here = owner.source
-    fits = [c for c in program.constants if c.name == name]
+    fits = [c for c in program.constants if c.name == name and is_seen(c, here)]
     if not fits:
         return None
     this = min(fits, key=lambda c: far(c, here))
     home = this.source
-
-    def value(c):
-        return CONSTANT.match(home.code[c.first]).group(3)
-
-    def may_be_used(c):
-        return home.crate == here.crate or home.code[c.first].lstrip().startswith("pub const")
-
-    same = [c for c in program.constants if c.source is home and c.of == this.of and may_be_used(c)]
-    others = [c.name for c in same if c is this or value(c) != value(this)]
+    same = [c for c in program.constants if c.source is home and c.of == this.of and is_seen(c, here)]
+    others = [c.name for c in same if c is this or number_of(c) != number_of(this)]
     other = after(others, name) if name in others else None
     if other is None:
         return None
@@ -461,9 +461,13 @@ def drops(owner, program):
             sign = re.match(rf"^{OPERAND} ([-+]) {OPERAND};$", value)
             none_added = [[(at, f"{indent}{place} = {place} {sign.group(1)} 0;")]] if sign else []
             if "[" in place:
+                forms = [kept, gone]
                 # To read an element is more to prove than to store one: if all else fails, 0 is stored.
                 nothing = "false" if re.search(r" [=!]= |^(?:true|false);", value) else "0"
-                forms = [kept, gone] + ([] if value == nothing + ";" else [[(at, f"{indent}{place} = {nothing};")]])
+                name = value.rstrip(";").split("::")[-1]
+                zeros = [c.name for c in program.constants if number_of(c) == "0"]
+                if name != nothing and name not in zeros:
+                    forms.append([(at, f"{indent}{place} = {nothing};")])
             else:
                 forms = [gone, kept] if "." in place else [kept, gone]
             yield none_added + forms
@@ -535,10 +539,15 @@ def chosen(program, mutants):
 # ---- judging one
 
 
+class Ended(Exception):
+    """The run was ended: what a stopped prover said is no verdict."""
+
+
 class Room:
     """A copy of the repository in which mutants are tried, one at a time."""
 
     running = set()
+    ended = threading.Event()
 
     def __init__(self, folder, origin, warm=True):
         self.root = Path(folder)
@@ -552,6 +561,8 @@ class Room:
         """The exit status of rt, None where it took too long, and what it said."""
         # One prover in a room; errors in full, since they are read here.
         surroundings = dict(os.environ, RT_JOBS="1", RT_CUT="0")
+        if Room.ended.is_set():
+            raise Ended
         process = subprocess.Popen(
             ["rt", *words],
             cwd=self.root,
@@ -562,6 +573,8 @@ class Room:
             start_new_session=True,
         )
         Room.running.add(process)
+        if Room.ended.is_set():
+            stop(process)
         try:
             said, _ = process.communicate(timeout=longest)
             status = process.returncode
@@ -570,6 +583,8 @@ class Room:
             said, _ = process.communicate()
             status = None
         Room.running.discard(process)
+        if Room.ended.is_set():
+            raise Ended
         return status, said.decode("utf-8", "replace").replace(str(self.root) + "/", "")
 
     def file_of(self, source):
@@ -821,6 +836,7 @@ def tried(mutants, jobs, keep):
         except BaseException as fault:  # noqa: B036: told by the main thread
             faults.append(fault)
 
+    threads = []
     with tempfile.TemporaryDirectory() as folder:
         try:
             rooms = []
@@ -834,15 +850,19 @@ def tried(mutants, jobs, keep):
                         sys.exit(2)
                     for crate in sorted({m.crate for m in mutants}, key=CRATES.index):
                         judge.before(rooms[0], crate)
-            threads = [threading.Thread(target=work, args=(room,), daemon=True) for room in rooms]
-            for thread in threads:
-                thread.start()
+            for room in rooms:
+                threads.append(threading.Thread(target=work, args=(room,), daemon=True))
+                threads[-1].start()
             for thread in threads:
                 while thread.is_alive():
                     thread.join(1)
         finally:
+            # No prover goes on, and none is started, before the copies are removed.
+            Room.ended.set()
             for process in list(Room.running):
                 stop(process)
+            for thread in threads:
+                thread.join()
     if faults:
         raise faults[0]
     return [verdicts[m.label] for m in mutants]
@@ -870,13 +890,13 @@ def report(verdicts, seconds, jobs):
         "- *comparison*: `<` becomes `<=`, `==` becomes `!=`, a test its opposite",
         "- *constant*: a number is one more or one less; a bool, a refusal or a named constant is another",
         "- *swap*: two operands, arguments or fields change places, or one gives way to another of its type",
-        "- *drop*: an assignment, or a call that writes, has no effect",
+        "- *drop*: an assignment, or a call that writes, has no effect; or 0 is stored, where no other form suits the proof",
         "",
         "The changes are found by rules over the code, not by hand, and spread over crates, files, functions and kinds. A mutant is",
         "**refused** if a fact that is to be proved of the changed code is not proved, **survived** if all is proved still. It is",
         "**shape** if the proof no longer fits the code's operations, and **invalid** if it is no valid code: these two say nothing",
-        "about a contract, and count for nothing. A refusal shows that the stored proof does not prove the changed code; that its",
-        "contract is then false is likely, and not shown.",
+        "about a contract, and count for nothing. Refused means that the proofs in the repository do not prove the changed code; it",
+        "is no proof that the contract is false of it.",
         "",
         f"**{counted(verdicts)}** ({minutes(seconds)}, {jobs} at a time).",
         "",
