@@ -22,15 +22,16 @@ use Rattle.tables.specs.State as tables
 use Rattle.tables.specs.Calls.{memorySource}
 use Rattle.opening.specs.Plans.{pipelineOf}
 use Rattle.opening.specs.Demands.{begun, told, left, endState, Demands}
-use Rattle.engine.specs.Machines.{machineOf, chosenOf}
-use Rattle.engine.specs.Moves.{endedOf}
-use Rattle.engine.specs.Opened.{stateOf, openOf, refusedWith, OpenedRun}
+use Rattle.state.specs.Machines.{machineOf}
+use Rattle.engine.specs.Machines.{chosenOf}
+use Rattle.state.specs.Ending.{endedOf}
+use Rattle.state.specs.Opened.{stateOf, openOf, refusedWith, OpenedRun}
 use Rattle.engine.specs.CodeRuns.{OpenCall, Calls, no-call, call, Session, eventsOf, SameEnd, CodeDemands, RefusedOpening}
-use Rattle.engine.specs.declared.State.{State}
-use Rattle.engine.specs.declared.beginning.Opening.{Opening}
-use Rattle.engine.specs.declared.beginning.Opened.{Opened}
-use Rattle.engine.proofs.openings.Opens.{refusing, opened-run}
-use Rattle.engine.proofs.in_range.SoundLaws.{ended-is as ended-as-rules}
+use Rattle.state.specs.declared.State.{State}
+use Rattle.state.specs.declared.beginning.Opening.{Opening}
+use Rattle.state.specs.declared.beginning.Opened.{Opened}
+use Rattle.state.proofs.openings.Opens.{refusing, opened-run}
+use Rattle.state.proofs.in_range.SoundLaws.{ended-is as ended-as-rules}
 use Rattle.engine.proofs.moves.Unchanged.{refused-unchanged}
 
 -- the calls' answers and the machine that they leave are those of the rules' lists of choices

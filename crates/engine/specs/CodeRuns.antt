@@ -15,13 +15,14 @@ use Rattle.rules.specs.declared.refusal.Refusal.{Refusal}
 use Rattle.plan.specs.Plan.{Plan, Valid, encode}
 use Rattle.tables.specs.Calls.{memorySource}
 use Rattle.opening.specs.Demands.{Shows, order, told, left, oneWorkerChoices}
-use Rattle.engine.specs.Machines.{machineOf, chosenOf}
-use Rattle.engine.specs.Moves.{endedOf}
-use Rattle.engine.specs.Opened.{openOf, refusedWith}
-use Rattle.engine.specs.declared.State.{State}
+use Rattle.state.specs.Machines.{machineOf}
+use Rattle.engine.specs.Machines.{chosenOf}
+use Rattle.state.specs.Ending.{endedOf}
+use Rattle.state.specs.Opened.{openOf, refusedWith}
+use Rattle.state.specs.declared.State.{State}
 use Rattle.engine.specs.declared.Chosen.{Chosen}
-use Rattle.engine.specs.declared.beginning.Opening.{Opening}
-use Rattle.engine.specs.declared.beginning.Opened.{Opened}
+use Rattle.state.specs.declared.beginning.Opening.{Opening}
+use Rattle.state.specs.declared.beginning.Opened.{Opened}
 
 -- a call of `choose` with this state, memory and line returned `r` and left the memory `m′`: what `choose` ensures
 abbrev pub ChooseCall : State → List ℕ → ℕ → Chosen → List ℕ → Type 0

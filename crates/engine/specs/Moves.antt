@@ -1,11 +1,11 @@
 -- What the parts of a move answer, as the code has them.
 use mathlib.Core.Path.{_≡_}
-use mathlib.Core.Bool.{Bool, true, false, not}
-use mathlib.Core.List.{List, [], _∷_}
+use mathlib.Core.Bool.{Bool, true, false}
+use mathlib.Core.List.{List}
 use Prim.Native.Nat.{ℕ, _+_, _-_}
 use lib.Dec.{eqb, ltb}
 use lib.ListN.{getD, set}
-use Rattle.rules.specs.Lists.{if, must, mustNot, all, every}
+use Rattle.rules.specs.Lists.{if, mustNot}
 use Rattle.rules.specs.declared.Line.{Line}
 use Rattle.rules.specs.declared.Slot.{Slot}
 use Rattle.rules.specs.declared.answer.Answer.{Answer}
@@ -14,29 +14,13 @@ use Rattle.rules.specs.Choices.{Chosen, Finished, next, moved, withPlace, start
 use Rattle.rules.specs.Sources.{Taken, Spoiled, Nothing, Took}
 use Rattle.tables.specs.declared.Tables.{Tables}
 use Rattle.tables.specs.Calls.{memorySource, safeTake}
-use Rattle.engine.specs.Machines.{machineOf, chosenOf}
-use Rattle.engine.specs.Turns.{whole, turned}
-use Rattle.engine.specs.declared.State.{State}
-use Rattle.engine.specs.declared.turn.Figures.{Figures}
+use Rattle.state.specs.declared.Figures.{Figures}
+use Rattle.state.specs.Machines.{machineOf, whole}
+use Rattle.engine.specs.Machines.{chosenOf}
+use Rattle.engine.specs.Turns.{turned}
 use Rattle.engine.specs.declared.turn.Cell.{Cell}
 use Rattle.engine.specs.declared.turn.Turn.{Turn}
 use Rattle.engine.specs.declared.finishing.Falls.{Falls}
-
--- a line that cannot move: its numbers are within the tables, it waits, and its counter is above 0
-unfoldable pub isStill : List ℕ → List Slot → ℕ → Bool
-isStill counters slots l =
-    let slot : Slot = getD slots l idle in
-    all (
-    ltb l 32 ∷ ltb (slot .pipe .0) 16 ∷ not (slot .running) ∷
-    not (eqb (getD counters (counterAt l (slot .pipe .0)) 0) 0) ∷ [])
-
--- "The run has ended when it is marked stopped, no line runs and no waiting line has counter 0." For any state; of one in
--- range it is the rules' `ended`.
-unfoldable pub overOf : Bool → ℕ → List ℕ → List Slot → Bool
-overOf stopped lines counters slots = must stopped false (every lines (isStill counters slots))
-
-abbrev pub endedOf : State → Bool
-endedOf s = overOf (s .stopped) (s .lines) (s .counters) (s .slots)
 
 -- whether a token was taken
 abbrev pub isTook : {X : Type 0} → Taken X → Bool

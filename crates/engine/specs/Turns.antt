@@ -1,40 +1,20 @@
 -- A choice worked out on the parts of a state, and made of the whole.
 use mathlib.Core.Path.{_≡_}
 use mathlib.Core.List.{List}
-use Prim.Native.Nat.{ℕ, _<_, _≤_}
+use Prim.Native.Nat.{ℕ, _<_}
 use lib.ListN.{getD, set}
 use Rattle.rules.specs.declared.Slot.{Slot}
 use Rattle.rules.specs.RunState.{Machine, idle}
 use Rattle.rules.specs.Choices as rules
 use Rattle.tables.specs.State as tables
-use Rattle.engine.specs.declared.State.{State}
+use Rattle.state.specs.declared.State.{State}
+use Rattle.state.specs.declared.Figures.{Figures}
+use Rattle.state.specs.Machines.{machineOf, whole}
 use Rattle.engine.specs.declared.Chosen.{Chosen}
-use Rattle.engine.specs.declared.turn.Figures.{Figures}
 use Rattle.engine.specs.declared.turn.Change.{Change}
 use Rattle.engine.specs.declared.turn.Turn.{Turn}
 use Rattle.engine.specs.declared.turn.Turn.the-variants.{Refused, Made}
-use Rattle.engine.specs.Machines.{machineOf, refusedBy, chosenOf}
-
--- the state of its parts
-abbrev pub whole : Figures → List ℕ → List Slot → State
-whole f counters slots = record {
-  pipes = f .pipes;
-  lines = f .lines;
-  workers = f .workers;
-  serial = f .serial;
-  counters = counters;
-  slots = slots;
-  placed = f .placed;
-  stopped = f .stopped;
-  tables = f .tables;
-}
-
--- a line of the plan, at a pipe of the plan
-pub record Ready (f : Figures) (slot : Slot) (l : ℕ) : Type 0 where
-  pub lines : f .lines ≤ 32
-  pub pipes : f .pipes ≤ 16
-  pub line : l < f .lines
-  pub pipe : slot .pipe .0 < f .pipes
+use Rattle.engine.specs.Machines.{refusedBy, chosenOf}
 
 -- the counters after a change
 abbrev pub recounted : List ℕ → Change → List ℕ

@@ -1,8 +1,6 @@
 // A running line finishes.
-use crate::limits::COUNTERS_OF_LINE;
 use crate::turn::Cell;
 use crate::turn::Change;
-use crate::turn::Figures;
 use crate::turn::Turn;
 use rules::Answer;
 use rules::Line;
@@ -12,6 +10,8 @@ use rules::Refusal;
 use rules::Slot;
 use rules::Step;
 use rules::Token;
+use state::COUNTERS_OF_LINE;
+use state::Figures;
 use tables::Released;
 use tables::Tables;
 ghost use mathlib.Core.Path.{_≡_};
@@ -20,7 +20,8 @@ ghost use lib.Dec.{eqb};
 ghost use Rattle.rules.specs.Lists.{if};
 ghost use Rattle.rules.specs.Choices.{next, moved as movedOf, finish as finishedBy};
 ghost use Rattle.tables.specs.Calls.{memorySource};
-ghost use Rattle.engine.specs.Turns.{Ready, Fits, Follows};
+ghost use Rattle.state.specs.Machines.{Ready};
+ghost use Rattle.engine.specs.Turns.{Fits, Follows};
 ghost use Rattle.engine.specs.Moves.{fallsOf, bothOf, settledTurn};
 
 // The counters that fall, and whether they can: none goes below 0.

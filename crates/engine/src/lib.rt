@@ -1,63 +1,34 @@
-// The engine: a run is opened from a plan's file, and each choice moves it on.
-mod beginning;
+// The engine: each choice moves a run on. A run is opened, and asked whether it has ended, by `state`.
 mod finishing;
-mod fresh_state;
-mod limits;
-mod ranges;
 mod running;
 mod starting;
 mod turn;
 
-pub use beginning::Opened;
-pub use beginning::Opening;
-pub use beginning::open;
 use rules::Answer;
 use rules::Line;
 use rules::Refusal;
 use rules::Slot;
-use tables::Tables;
-use turn::Figures;
+use state::COUNTERS_OF_LINE;
+use state::Figures;
+pub use state::Opened;
+pub use state::Opening;
+pub use state::State;
+pub use state::ended;
+pub use state::open;
 use turn::Turn;
 ghost use mathlib.Core.Path.{_≡_};
-ghost use mathlib.Core.Bool.{true};
-ghost use mathlib.Core.List.{List};
-ghost use Prim.Native.Nat.{ℕ};
 ghost use lib.ListN.{getD};
 ghost use Rattle.rules.specs.RunState.{idle};
-ghost use Rattle.rules.specs.Ranges.{sound as soundBy};
-ghost use Rattle.rules.specs.Choices.{ended as endedBy, choose as chosenBy, move as movedBy};
+ghost use Rattle.rules.specs.Choices.{choose as chosenBy, move as movedBy};
 ghost use Rattle.tables.specs.Calls.{memorySource};
-ghost use Rattle.engine.specs.Machines.{machineOf, chosenOf};
-ghost use Rattle.engine.specs.Moves.{endedOf};
-ghost use Rattle.engine.specs.Turns.{whole, turned, Ready, Fits};
-
-// The state of a run: P, L, W, which pipes are serial, the join counters (16 to a line), what each line does, how many
-// tokens have a place, whether the run is marked stopped, and the numbers of the token tables, N among them.
-pub struct State {
-    pub pipes: u16,
-    pub lines: u16,
-    pub workers: u16,
-    pub serial: [bool; 16],
-    pub counters: [u8; 512],
-    pub slots: [Slot; 32],
-    pub placed: u16,
-    pub stopped: bool,
-    pub tables: Tables,
-}
+ghost use Rattle.state.specs.Machines.{machineOf, whole, Ready};
+ghost use Rattle.engine.specs.Machines.{chosenOf};
+ghost use Rattle.engine.specs.Turns.{turned, Fits};
 
 // What a choice returns: its answer, and the state after it.
 pub struct Chosen {
     pub answer: Answer,
     pub state: State,
-}
-
-// Whether the run has ended; no where a line or a pipe lies outside the tables.
-pub fn ended(s: State) -> bool
-    ensures answer { λ r. ⌜ r ≡ endedOf s ⌝ }
-    ensures rules { λ r. ⌜ ((m : List ℕ) → soundBy memorySource (machineOf s m) ≡ true → r ≡ endedBy (machineOf s m)) ⌝ }
-{
-    let slots = s.slots;
-    running::is_over(s.stopped, s.lines, slots, &s.counters)
 }
 
 // A choice of a line below L, in a run that has not ended.
@@ -78,7 +49,7 @@ fn move_line(
     if slot.running {
         return finishing::finish(f, slot, counters, mem, line);
     }
-    let at = limits::COUNTERS_OF_LINE * l + slot.pipe.0 as usize;
+    let at = COUNTERS_OF_LINE * l + slot.pipe.0 as usize;
     if counters[at] != 0 {
         return Turn::Refused(Refusal::Early);
     }
@@ -94,13 +65,13 @@ fn turn_of(f: Figures, slots: [Slot; 32], counters: &[u8; 512], mem: &mut [u16],
     ensures chooses { λ r. ⌜ chosenOf (turned (whole f (now (counters .entry)) slots) (line .0) r) (now (mem .exit)) ≡
         chosenBy memorySource (machineOf (whole f (now (counters .entry)) slots) (now (mem .entry))) (line .0) ⌝ }
 {
-    if !ranges::sound(f, slots, counters, mem) {
+    if !state::sound(f, slots, counters, mem) {
         return Turn::Refused(Refusal::Spoiled);
     }
     if f.lines <= line.0 {
         return Turn::Refused(Refusal::NoLine);
     }
-    if running::is_over(f.stopped, f.lines, slots, counters) {
+    if state::is_over(f.stopped, f.lines, slots, counters) {
         return Turn::Refused(Refusal::Ended);
     }
     move_line(f, slots, counters, mem, line)

@@ -1,8 +1,6 @@
 // A waiting line with counter 0 starts, or stops.
-use crate::limits::COUNTERS_OF_LINE;
 use crate::turn::Cell;
 use crate::turn::Change;
-use crate::turn::Figures;
 use crate::turn::Turn;
 use rules::Answer;
 use rules::Line;
@@ -13,6 +11,8 @@ use rules::Refusal;
 use rules::Slot;
 use rules::Step;
 use rules::Token;
+use state::COUNTERS_OF_LINE;
+use state::Figures;
 use tables::Offer;
 use tables::Tables;
 use tables::Taken;
@@ -21,7 +21,8 @@ ghost use mathlib.Core.List.{List};
 ghost use Prim.Native.Nat.{ℕ, _<_};
 ghost use Rattle.rules.specs.Choices.{start as startedBy};
 ghost use Rattle.tables.specs.Calls.{memorySource};
-ghost use Rattle.engine.specs.Turns.{Ready, Fits, Follows};
+ghost use Rattle.state.specs.Machines.{Ready};
+ghost use Rattle.engine.specs.Turns.{Fits, Follows};
 ghost use Rattle.engine.specs.Moves.{overfullOf, refilled, startedTurn, takenTurn, stoppedTurn, StartsFirst};
 
 // The counter of a line and pipe, full again.

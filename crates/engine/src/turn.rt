@@ -4,17 +4,6 @@ use rules::Refusal;
 use rules::Slot;
 use tables::Tables;
 
-// The state but for its counters and slots.
-pub struct Figures {
-    pub pipes: u16,
-    pub lines: u16,
-    pub workers: u16,
-    pub serial: [bool; 16],
-    pub placed: u16,
-    pub stopped: bool,
-    pub tables: Tables,
-}
-
 // A counter's place among all counters, and its new value.
 pub struct Cell {
     pub at: usize,

@@ -11,12 +11,13 @@ use Rattle.rules.specs.declared.answer.Step.{Step}
 use Rattle.rules.specs.declared.answer.Answer.{Answer}
 use Rattle.rules.specs.declared.refusal.Refusal.{Refusal}
 use Rattle.tables.specs.Calls.{memorySource}
-use Rattle.engine.specs.Machines.{machineOf, chosenOf}
-use Rattle.engine.specs.declared.State.{State}
+use Rattle.state.specs.Machines.{machineOf}
+use Rattle.engine.specs.Machines.{chosenOf}
+use Rattle.state.specs.declared.State.{State}
 use Rattle.engine.specs.declared.Chosen.{Chosen}
-use Rattle.engine.specs.declared.beginning.Opening.{Opening}
-use Rattle.engine.specs.declared.beginning.Opened.{Opened}
-use Rattle.engine.specs.Opened.{openOf}
+use Rattle.state.specs.declared.beginning.Opening.{Opening}
+use Rattle.state.specs.declared.beginning.Opened.{Opened}
+use Rattle.state.specs.Opened.{openOf}
 use Rattle.engine.proofs.Feeding.{follow-turn, follow-end, answers-turn, answers-end}
 use Rattle.whole_run.specs.Checksums.{stepValue, valueOf, mixed, checksum}
 use Rattle.whole_run.specs.Runs.{ranFrom, runOf}

@@ -4,7 +4,7 @@ mod checksum;
 ghost use mathlib.Core.Path.{_≡_};
 ghost use Rattle.rules.specs.Choices.{answers, follow as followed};
 ghost use Rattle.tables.specs.Calls.{memorySource};
-ghost use Rattle.engine.specs.Machines.{machineOf};
+ghost use Rattle.state.specs.Machines.{machineOf};
 ghost use Rattle.whole_run.specs.Checksums.{checksum};
 ghost use Rattle.whole_run.specs.Runs.{runOf};
 use engine::Chosen;

@@ -13,14 +13,16 @@ use Rattle.rules.specs.Ranges.{sound}
 use Rattle.rules.specs.Choices as rules
 use Rattle.tables.specs.State as tables
 use Rattle.tables.specs.Calls.{memorySource}
-use Rattle.engine.specs.declared.State.{State}
-use Rattle.engine.specs.declared.turn.Figures.{Figures}
+use Rattle.state.specs.declared.State.{State}
+use Rattle.state.specs.declared.Figures.{Figures}
 use Rattle.engine.specs.declared.turn.Turn.{Turn}
-use Rattle.engine.specs.Machines.{machineOf, chosenOf}
-use Rattle.engine.specs.Moves.{endedOf}
-use Rattle.engine.specs.Turns.{whole, turned, Ready}
+use Rattle.state.specs.Machines.{machineOf}
+use Rattle.engine.specs.Machines.{chosenOf}
+use Rattle.state.specs.Ending.{endedOf}
+use Rattle.state.specs.Machines.{whole, Ready}
+use Rattle.engine.specs.Turns.{turned}
 use Rattle.engine.proofs.moves.Parts.{refused}
-use Rattle.engine.proofs.in_range.SoundLaws as sound
+use Rattle.state.proofs.in_range.SoundLaws as sound
 
 module _ (f : Figures) (counters : List ℕ) (slots : List Slot) (l : ℕ) (mem : List ℕ) where
   abbrev s : State

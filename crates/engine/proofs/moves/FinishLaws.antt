@@ -26,12 +26,14 @@ use Rattle.tables.specs.declared.Released.{Released}
 use Rattle.tables.specs.State as tables
 use Rattle.tables.specs.Releasing.{releasedOf, releasedMemory}
 use Rattle.tables.specs.Calls.{safeRelease, memorySource}
-use Rattle.engine.specs.declared.State.{State}
-use Rattle.engine.specs.declared.turn.Figures.{Figures}
+use Rattle.state.specs.declared.State.{State}
+use Rattle.state.specs.declared.Figures.{Figures}
 use Rattle.engine.specs.declared.turn.Turn.{Turn}
 use Rattle.engine.specs.declared.finishing.Falls.{Falls}
-use Rattle.engine.specs.Machines.{machineOf, chosenOf}
-use Rattle.engine.specs.Turns.{whole, turned}
+use Rattle.state.specs.Machines.{machineOf}
+use Rattle.engine.specs.Machines.{chosenOf}
+use Rattle.state.specs.Machines.{whole}
+use Rattle.engine.specs.Turns.{turned}
 use Rattle.engine.specs.Moves.{fallsOf, bothOf, fallen, finishedOf, settledTurn}
 use Rattle.engine.proofs.moves.Parts.{parts, refused}
 use Rattle.engine.proofs.moves.Kept.{was-broken, was-passed}

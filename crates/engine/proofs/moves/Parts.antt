@@ -10,11 +10,12 @@ use Rattle.rules.specs.Choices.{withPlace, refuse}
 use Rattle.rules.specs.Choices as rules
 use Rattle.tables.specs.declared.Tables.{Tables}
 use Rattle.tables.specs.State as tables
-use Rattle.engine.specs.declared.State.{State}
+use Rattle.state.specs.declared.State.{State}
 use Rattle.engine.specs.declared.Chosen.{Chosen}
 use Rattle.engine.specs.declared.turn.Change.{Change}
 use Rattle.engine.specs.declared.turn.Turn.{Turn}
-use Rattle.engine.specs.Machines.{machineOf, refusedBy, chosenOf}
+use Rattle.state.specs.Machines.{machineOf}
+use Rattle.engine.specs.Machines.{refusedBy, chosenOf}
 use Rattle.engine.specs.Turns.{turned, Fits}
 use Rattle.rules.specs.Answers.{answerOf}
 

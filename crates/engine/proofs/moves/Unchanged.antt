@@ -5,9 +5,10 @@ use Prim.Native.Nat.{ℕ}
 use Rattle.rules.specs.Choices.{Refused}
 use Rattle.rules.proofs.choices.Unchanged as rules
 use Rattle.tables.specs.Calls.{memorySource}
-use Rattle.engine.specs.declared.State.{State}
+use Rattle.state.specs.declared.State.{State}
 use Rattle.engine.specs.declared.Chosen.{Chosen}
-use Rattle.engine.specs.Machines.{machineOf, chosenOf}
+use Rattle.state.specs.Machines.{machineOf}
+use Rattle.engine.specs.Machines.{chosenOf}
 use Rattle.engine.specs.CodeRuns.{ChooseCall}
 use Rattle.rules.specs.Answers.{answerOf}
 

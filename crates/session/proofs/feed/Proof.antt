@@ -5,7 +5,7 @@ use Prim.Native.Nat.{_≤_, _-_}
 use lib.ListN.{length, drop}
 use Rattle.rules.specs.Choices.{follow}
 use Rattle.tables.specs.Calls.{memorySource}
-use Rattle.engine.specs.Machines.{machineOf}
+use Rattle.state.specs.Machines.{machineOf}
 use Rattle.engine.proofs.Feeding.{follow-turn, follow-end}
 use borrow.Author.Needs.{needs}
 use Rattle.session.proofs.feed.Statement.{statement}

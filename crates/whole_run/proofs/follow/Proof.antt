@@ -5,7 +5,7 @@ use Prim.Native.Nat.{_≤_, _-_}
 use lib.ListN.{length, drop}
 use Rattle.rules.specs.Choices.{choose, answers, follow}
 use Rattle.tables.specs.Calls.{memorySource}
-use Rattle.engine.specs.Machines.{machineOf}
+use Rattle.state.specs.Machines.{machineOf}
 use Rattle.whole_run.specs.Checksums.{checksum}
 use Rattle.whole_run.proofs.Summing as laws
 use borrow.Author.Needs.{needs}

@@ -1,0 +1,105 @@
+-- Tests of the numbers below a bound: without a way out on the way, from a number on, in two parts, and row by row.
+use mathlib.Core.Path.{_≡_, refl, sym, ap, subst, _∙_}
+use mathlib.Core.Bool.{Bool, true, false}
+use Prim.Native.Nat.{ℕ, zero, suc, _+_, _-_, _*_, _<_, _≤_}
+use native.Mathlib.Omega.{arith}
+use native.Mathlib.Numerals.{add-one}
+use native.Mathlib.Nat.{mul-zero, mul-suc}
+use Rattle.rules.specs.Lists.{if, every}
+use Rattle.state.specs.RangeParts.{everyFrom}
+use Rattle.rules.proofs.lists.EveryBelow.{every-none, every-more, every-fails}
+use Rattle.rules.proofs.lists.Tests.{if-eta}
+
+-- of two tests that hold, each
+pub first-holds : (b x : Bool) → if b x false ≡ true → b ≡ true
+first-holds true x e = refl
+first-holds false x e = let z : _≡_ {A = ℕ} 0 1 = cc in absurd (omega arith)
+
+pub rest-hold : (b x : Bool) → if b x false ≡ true → x ≡ true
+rest-hold true x e = e
+rest-hold false x e = let z : _≡_ {A = ℕ} 0 1 = cc in absurd (omega arith)
+
+-- of two tests, either may come first
+swap : (a b : Bool) → if a b false ≡ if b a false
+swap true b = sym (if-eta b)
+swap false true = refl
+swap false false = refl
+
+swap-under : (a b c : Bool) → if a (if b c false) false ≡ if b (if a c false) false
+swap-under true b c = refl
+swap-under false true c = refl
+swap-under false false c = refl
+
+-- tests that agree below n
+pub every-same : (n : ℕ) (f g : ℕ → Bool) → ((i : ℕ) → i < n → f i ≡ g i) → every n f ≡ every n g
+unfolding every
+every-same zero f g e = refl
+every-same (suc n) f g e = rw (e n (omega arith), every-same n f g (λ i h. e i (omega arith)))
+
+module _ (f : ℕ → Bool) where
+  -- the answer so far, after one number more
+  pub every-kept : (i : ℕ) {ok : Bool} → ok ≡ every i f → f i ≡ true → ok ≡ every (i + 1) f
+  unfolding every
+  every-kept i h e = rw (add-one, e) h
+
+  pub every-lost : (i : ℕ) → f i ≡ false → false ≡ every (i + 1) f
+  unfolding every
+  every-lost i e = rw (add-one, e)
+
+  pub every-all : (n i : ℕ) {ok : Bool} → i ≤ n → n ≤ i → ok ≡ every i f → ok ≡ every n f
+  every-all n i {ok} a b h = let i-is : i ≡ n = omega arith in subst (λ j. ok ≡ every j f) i-is h
+
+  -- all numbers below a + b
+  split : (a b : ℕ) → every (a + b) f ≡ if (every a f) (every b (λ i. f (a + i))) false
+  unfolding every
+  split a zero = let none : a + 0 ≡ a = omega arith in rw none (sym (if-eta (every a f)))
+  split a (suc b) =
+      let one : a + suc b ≡ suc (a + b) = omega arith in
+      rw one (ap (λ x. if (f (a + b)) x false) (split a b) ∙ swap-under (f (a + b)) (every a f) _)
+
+  -- rows of k numbers
+  pub every-rows : (k n : ℕ) → every (k * n) f ≡ every n (λ l. every k (λ p. f (k * l + p)))
+  unfolding every
+  every-rows k zero = rw (mul-zero k)
+  every-rows k (suc n) =
+      ap (λ m. every m f) (mul-suc k n) ∙ split (k * n) k ∙ ap (λ x. if x (every k (λ p. f (k * n + p))) false) (every-rows k n) ∙
+      swap (every n (λ l. every k (λ p. f (k * l + p)))) (every k (λ p. f (k * n + p)))
+
+  -- from 0, which is all
+  pub from-none : (n : ℕ) → everyFrom 0 n f ≡ every n f
+  unfolding everyFrom
+  from-none n =
+      let n-is : n - 0 ≡ n = omega arith in
+      rw n-is (every-same n (λ i. f (0 + i)) f (λ i h. let i-is : 0 + i ≡ i = omega arith in ap f i-is))
+
+  -- in two parts, each by a test of its own
+  pub every-parts : (n a : ℕ) (g h : ℕ → Bool) → a ≤ n → ((i : ℕ) → i < a → f i ≡ g i) → ((i : ℕ) → a ≤ i → f i ≡ h i) →
+      every n f ≡ if (every a g) (everyFrom a n h) false
+  unfolding everyFrom
+  every-parts n a g h le first later =
+      let parts : n ≡ a + (n - a) = omega arith in
+      ap (λ m. every m f) parts ∙ split a (n - a) ∙
+      rw (every-same a f g first, every-same (n - a) (λ i. f (a + i)) (λ i. h (a + i)) (λ i k. later (a + i) (omega arith)))
+
+  -- from a number on
+  module _ (from : ℕ) where
+    abbrev later : ℕ → Bool
+    later i = f (from + i)
+
+    later-is : (i : ℕ) → from ≤ i → {v : Bool} → f i ≡ v → later (i - from) ≡ v
+    later-is i h e = let i-is : from + (i - from) ≡ i = omega arith in ap f i-is ∙ e
+
+    pub from-start : everyFrom from from f ≡ true
+    unfolding everyFrom
+    from-start = let no : from - from ≡ 0 = omega arith in rw no (every-none later)
+
+    pub from-more : (i : ℕ) → from ≤ i → everyFrom from i f ≡ true → f i ≡ true → everyFrom from (i + 1) f ≡ true
+    unfolding everyFrom
+    from-more i h t e = let one : i + 1 - from ≡ i - from + 1 = omega arith in rw one (every-more later (i - from) t (later-is i h e))
+
+    pub from-done : (n i : ℕ) → i ≤ n → n ≤ i → everyFrom from i f ≡ true → true ≡ everyFrom from n f
+    from-done n i a b t = let i-is : i ≡ n = omega arith in sym (subst (λ j. everyFrom from j f ≡ true) i-is t)
+
+    pub from-fails : (n i : ℕ) → from ≤ i → i < n → f i ≡ false → false ≡ everyFrom from n f
+    unfolding everyFrom
+    from-fails n i a b e = every-fails later (n - from) (i - from) (omega arith) (later-is i a e)

@@ -1,0 +1,58 @@
+// The state of a run: its numbers and their ranges, its opening, and its end.
+mod beginning;
+mod ending;
+mod fresh_state;
+mod limits;
+mod ranges;
+
+pub use beginning::Opened;
+pub use beginning::Opening;
+pub use beginning::open;
+pub use ending::is_over;
+pub use limits::COUNTERS_OF_LINE;
+pub use ranges::sound;
+use rules::Slot;
+use tables::Tables;
+ghost use mathlib.Core.Path.{_≡_};
+ghost use mathlib.Core.Bool.{true};
+ghost use mathlib.Core.List.{List};
+ghost use Prim.Native.Nat.{ℕ};
+ghost use Rattle.rules.specs.Ranges.{sound as soundBy};
+ghost use Rattle.rules.specs.Choices.{ended as endedBy};
+ghost use Rattle.tables.specs.Calls.{memorySource};
+ghost use Rattle.state.specs.Machines.{machineOf};
+ghost use Rattle.state.specs.Ending.{endedOf};
+
+// The state of a run: P, L, W, which pipes are serial, the join counters (16 to a line), what each line does, how many
+// tokens have a place, whether the run is marked stopped, and the numbers of the token tables, N among them.
+pub struct State {
+    pub pipes: u16,
+    pub lines: u16,
+    pub workers: u16,
+    pub serial: [bool; 16],
+    pub counters: [u8; 512],
+    pub slots: [Slot; 32],
+    pub placed: u16,
+    pub stopped: bool,
+    pub tables: Tables,
+}
+
+// The state but for its counters and slots.
+pub struct Figures {
+    pub pipes: u16,
+    pub lines: u16,
+    pub workers: u16,
+    pub serial: [bool; 16],
+    pub placed: u16,
+    pub stopped: bool,
+    pub tables: Tables,
+}
+
+// Whether the run has ended; no where a line or a pipe lies outside the tables.
+pub fn ended(s: State) -> bool
+    ensures answer { λ r. ⌜ r ≡ endedOf s ⌝ }
+    ensures rules { λ r. ⌜ ((m : List ℕ) → soundBy memorySource (machineOf s m) ≡ true → r ≡ endedBy (machineOf s m)) ⌝ }
+{
+    let slots = s.slots;
+    is_over(s.stopped, s.lines, slots, &s.counters)
+}
