@@ -1,12 +1,12 @@
 // Whether every number of a run's state is within its range. It is asked at every choice: so the counters are lent and not
 // copied, and a row of them, or of flags, is compared to its end, which takes a few instructions for all 16.
+use crate::Figures;
 use crate::limits::COUNTERS_OF_LINE;
 use crate::limits::FLAGS;
 use crate::limits::MOST_LINES;
 use crate::limits::MOST_PIPES;
 use crate::limits::MOST_TOKENS;
 use crate::limits::SLOTS;
-use crate::Figures;
 use opening::MOST_WORKERS;
 use rules::PipeKind;
 use rules::Slot;

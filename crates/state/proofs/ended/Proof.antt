@@ -1,4 +1,4 @@
--- `engine::ended` meets its contract.
+-- `state::ended` meets its contract.
 use borrow.Author.Needs.{needs}
 use Rattle.state.proofs.in_range.SoundLaws.{both-rules}
 use Rattle.state.proofs.ended.Statement.{statement}

@@ -1,4 +1,4 @@
--- `engine::running::all_still` meets its contract. The invariant: no line below l can move.
+-- `state::ending::all_still` meets its contract. The invariant: no line below l can move.
 use mathlib.Core.Bool.{true}
 use mathlib.Core.Path.{_≡_, sym}
 use Prim.Native.Nat.{_-_, _≤_}

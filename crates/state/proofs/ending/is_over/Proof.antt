@@ -1,4 +1,4 @@
--- `engine::running::is_over` meets its contract.
+-- `state::ending::is_over` meets its contract.
 use borrow.Author.Needs.{needs}
 use Rattle.rules.proofs.lists.Tests.{tests}
 use Rattle.state.specs.Ending.{overOf}

@@ -1,4 +1,4 @@
--- `engine::ranges::counters_sound` meets its contract.
+-- `state::ranges::counters_sound` meets its contract.
 use borrow.Author.Tests.{not-true, not-false}
 use borrow.Author.Needs.{needs}
 use mathlib.Core.Path.{sym, _∙_}

@@ -1,4 +1,4 @@
--- `engine::ranges::flag_sound` meets its contract.
+-- `state::ranges::flag_sound` meets its contract.
 use borrow.Author.Needs.{needs}
 use Rattle.rules.proofs.lists.Tests.{tests}
 use Rattle.state.proofs.ranges.flag_sound.Statement.{statement}

@@ -1,4 +1,4 @@
--- `engine::ranges::flags_sound` meets its contract. The invariant: `ok` says whether all flags below p are sound.
+-- `state::ranges::flags_sound` meets its contract. The invariant: `ok` says whether all flags below p are sound.
 use mathlib.Core.Path.{_≡_, sym, _∙_}
 use Prim.Native.Nat.{_-_, _≤_}
 use native.Mathlib.Omega.{arith}

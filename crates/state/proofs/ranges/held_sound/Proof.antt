@@ -1,4 +1,4 @@
--- `engine::ranges::held_sound` meets its contract.
+-- `state::ranges::held_sound` meets its contract.
 use borrow.Author.Tests.{lt-ltb}
 use mathlib.Core.Path.{sym}
 use Rattle.rules.proofs.lists.Tests.{tests, if-eta}

@@ -1,4 +1,4 @@
--- `engine::ranges::is_idle` meets its contract.
+-- `state::ranges::is_idle` meets its contract.
 use borrow.Author.Tests.{ne-eqb}
 use mathlib.Core.Path.{sym}
 use mathlib.Core.Bool.{false, not}

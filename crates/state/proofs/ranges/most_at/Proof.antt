@@ -1,4 +1,4 @@
--- `engine::ranges::most_at` meets its contract.
+-- `state::ranges::most_at` meets its contract.
 use mathlib.Core.Path.{ap, _∙_}
 use borrow.Author.Tests.{lt-ltb}
 use borrow.Author.Needs.{needs}

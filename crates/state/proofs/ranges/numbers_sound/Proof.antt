@@ -1,4 +1,4 @@
--- `engine::ranges::numbers_sound` meets its contract.
+-- `state::ranges::numbers_sound` meets its contract.
 use Rattle.rules.specs.Lists.{within}
 use Rattle.rules.proofs.lists.Tests.{tests, if-eta}
 use Rattle.state.specs.RangeParts.{figuresSound}

@@ -1,4 +1,4 @@
--- `engine::ranges::row_sound` meets its contract. The invariant: `ok` says whether all counters below p are sound.
+-- `state::ranges::row_sound` meets its contract. The invariant: `ok` says whether all counters below p are sound.
 use mathlib.Core.Path.{_≡_, sym}
 use Prim.Native.Nat.{_-_, _≤_}
 use native.Mathlib.Omega.{arith}

@@ -1,4 +1,4 @@
--- `engine::ranges::rows_sound` meets its contract. The invariant: all rows before l are sound.
+-- `state::ranges::rows_sound` meets its contract. The invariant: all rows before l are sound.
 use mathlib.Core.Bool.{true}
 use mathlib.Core.Path.{_≡_, sym, _∙_}
 use Prim.Native.Nat.{_-_, _≤_}

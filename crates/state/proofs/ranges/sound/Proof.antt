@@ -1,4 +1,4 @@
--- `engine::ranges::sound` meets its contract.
+-- `state::ranges::sound` meets its contract.
 use borrow.Author.Tests.{not-true, not-false}
 use borrow.Author.Needs.{needs}
 use mathlib.Core.Path.{sym, _∙_}

@@ -1,4 +1,4 @@
--- `engine::ranges::unused_slots_sound` meets its contract. The invariant: all unused slots below l are idle.
+-- `state::ranges::unused_slots_sound` meets its contract. The invariant: all unused slots below l are idle.
 use mathlib.Core.Bool.{true}
 use mathlib.Core.Path.{_≡_, sym, _∙_}
 use Prim.Native.Nat.{_-_, _≤_}

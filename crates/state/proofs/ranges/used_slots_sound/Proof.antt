@@ -1,4 +1,4 @@
--- `engine::ranges::used_slots_sound` meets its contract. The invariant: all slots below l are sound.
+-- `state::ranges::used_slots_sound` meets its contract. The invariant: all slots below l are sound.
 use mathlib.Core.Bool.{true}
 use mathlib.Core.Path.{_≡_, sym, _∙_}
 use Prim.Native.Nat.{_-_, _≤_}

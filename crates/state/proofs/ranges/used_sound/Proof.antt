@@ -1,4 +1,4 @@
--- `engine::ranges::used_sound` meets its contract.
+-- `state::ranges::used_sound` meets its contract.
 use borrow.Author.Tests.{lt-ltb, le-ltb}
 use borrow.Author.Needs.{needs}
 use mathlib.Core.Path.{_≡_}
