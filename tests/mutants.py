@@ -29,7 +29,7 @@ from collections import Counter
 from pathlib import Path
 
 ROOT = Path(__file__).resolve().parent.parent
-CRATES = ["rules", "plan", "tables", "opening", "state", "engine", "whole_run", "session"]
+CRATES = ["rules", "plan", "tables", "state", "opening", "engine", "whole_run", "session"]
 KINDS = ["comparison", "constant", "swap", "drop"]
 
 # Without --all a function with a contract gets one mutant, or two if many can be made of it. Of

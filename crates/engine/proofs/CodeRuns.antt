@@ -25,12 +25,12 @@ use Rattle.opening.specs.Demands.{begun, told, left, endState, Demands}
 use Rattle.state.specs.Machines.{machineOf}
 use Rattle.engine.specs.Machines.{chosenOf}
 use Rattle.state.specs.Ending.{endedOf}
-use Rattle.state.specs.Opened.{stateOf, openOf, refusedWith, OpenedRun}
+use Rattle.opening.specs.Opened.{stateOf, openOf, refusedWith, OpenedRun}
 use Rattle.engine.specs.CodeRuns.{OpenCall, Calls, no-call, call, Session, eventsOf, SameEnd, CodeDemands, RefusedOpening}
 use Rattle.state.specs.declared.State.{State}
-use Rattle.state.specs.declared.beginning.Opening.{Opening}
-use Rattle.state.specs.declared.beginning.Opened.{Opened}
-use Rattle.state.proofs.openings.Opens.{refusing, opened-run}
+use Rattle.opening.specs.declared.beginning.Opening.{Opening}
+use Rattle.opening.specs.declared.beginning.Opened.{Opened}
+use Rattle.opening.proofs.openings.Opens.{refusing, opened-run}
 use Rattle.state.proofs.in_range.SoundLaws.{ended-is as ended-as-rules}
 use Rattle.engine.proofs.moves.Unchanged.{refused-unchanged}
 

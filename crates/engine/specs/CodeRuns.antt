@@ -18,11 +18,11 @@ use Rattle.opening.specs.Demands.{Shows, order, told, left, oneWorkerChoices}
 use Rattle.state.specs.Machines.{machineOf}
 use Rattle.engine.specs.Machines.{chosenOf}
 use Rattle.state.specs.Ending.{endedOf}
-use Rattle.state.specs.Opened.{openOf, refusedWith}
+use Rattle.opening.specs.Opened.{openOf, refusedWith}
 use Rattle.state.specs.declared.State.{State}
 use Rattle.engine.specs.declared.Chosen.{Chosen}
-use Rattle.state.specs.declared.beginning.Opening.{Opening}
-use Rattle.state.specs.declared.beginning.Opened.{Opened}
+use Rattle.opening.specs.declared.beginning.Opening.{Opening}
+use Rattle.opening.specs.declared.beginning.Opened.{Opened}
 
 -- a call of `choose` with this state, memory and line returned `r` and left the memory `m′`: what `choose` ensures
 abbrev pub ChooseCall : State → List ℕ → ℕ → Chosen → List ℕ → Type 0

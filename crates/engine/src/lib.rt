@@ -1,20 +1,20 @@
-// The engine: each choice moves a run on. A run is opened, and asked whether it has ended, by `state`.
+// The engine: a run is opened, each choice moves it on, and it can be asked whether it has ended.
 mod finishing;
 mod running;
 mod starting;
 mod turn;
 
+pub use opening::Opened;
+pub use opening::Opening;
+pub use opening::open;
 use rules::Answer;
 use rules::Line;
 use rules::Refusal;
 use rules::Slot;
 use state::COUNTERS_OF_LINE;
 use state::Figures;
-pub use state::Opened;
-pub use state::Opening;
 pub use state::State;
 pub use state::ended;
-pub use state::open;
 use turn::Turn;
 ghost use mathlib.Core.Path.{_≡_};
 ghost use lib.ListN.{getD};

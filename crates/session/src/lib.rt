@@ -4,7 +4,7 @@ ghost use mathlib.Core.Path.{_≡_};
 ghost use Rattle.rules.specs.Choices.{choose as chosenBy, follow};
 ghost use Rattle.tables.specs.Calls.{memorySource};
 ghost use Rattle.state.specs.Machines.{machineOf};
-ghost use Rattle.state.specs.Opened.{openOf};
+ghost use Rattle.opening.specs.Opened.{openOf};
 ghost use Rattle.session.specs.Begun.{isAccepted};
 
 mod sink;

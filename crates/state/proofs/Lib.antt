@@ -1,4 +1,2 @@
--- The proofs of the state, by topic. Reading order: its ranges;
+-- The proofs of the state: its ranges, and what they tell.
 pub mod in_range
--- and its opening.
-pub mod openings

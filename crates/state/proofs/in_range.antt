@@ -1,4 +1,6 @@
 -- The ranges of a state. Reading order:
+-- a walk that fills a list of zeros;
+pub mod Filling
 -- tests of the numbers below a bound, in parts and row by row;
 pub mod Rows
 -- the counters and the slots, those of the plan's lines and the unused ones;

@@ -2,7 +2,5 @@
 pub mod Machines
 -- the ranges of its numbers, in parts;
 pub mod RangeParts
--- an opening;
-pub mod Opened
 -- and the end.
 pub mod Ending

@@ -1,15 +1,14 @@
-// The state of a run: its numbers and their ranges, its opening, and its end.
-mod beginning;
+// The state of a run: its numbers and their ranges, and its end.
 mod ending;
-mod fresh_state;
 mod limits;
 mod ranges;
 
-pub use beginning::Opened;
-pub use beginning::Opening;
-pub use beginning::open;
 pub use ending::is_over;
+pub use limits::COUNTERS;
 pub use limits::COUNTERS_OF_LINE;
+pub use limits::FLAGS;
+pub use limits::MOST_WORKERS;
+pub use limits::SLOTS;
 pub use ranges::sound;
 use rules::Slot;
 use tables::Tables;

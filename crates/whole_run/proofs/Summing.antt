@@ -15,9 +15,9 @@ use Rattle.state.specs.Machines.{machineOf}
 use Rattle.engine.specs.Machines.{chosenOf}
 use Rattle.state.specs.declared.State.{State}
 use Rattle.engine.specs.declared.Chosen.{Chosen}
-use Rattle.state.specs.declared.beginning.Opening.{Opening}
-use Rattle.state.specs.declared.beginning.Opened.{Opened}
-use Rattle.state.specs.Opened.{openOf}
+use Rattle.opening.specs.declared.beginning.Opening.{Opening}
+use Rattle.opening.specs.declared.beginning.Opened.{Opened}
+use Rattle.opening.specs.Opened.{openOf}
 use Rattle.engine.proofs.Feeding.{follow-turn, follow-end, answers-turn, answers-end}
 use Rattle.whole_run.specs.Checksums.{stepValue, valueOf, mixed, checksum}
 use Rattle.whole_run.specs.Runs.{ranFrom, runOf}

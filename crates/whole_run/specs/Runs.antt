@@ -5,10 +5,10 @@ use Rattle.rules.specs.Refusals.{numberOf}
 use Rattle.rules.specs.Choices.{answers, follow}
 use Rattle.tables.specs.Calls.{memorySource}
 use Rattle.state.specs.Machines.{machineOf}
-use Rattle.state.specs.Opened.{openOf}
+use Rattle.opening.specs.Opened.{openOf}
 use Rattle.state.specs.declared.State.{State}
-use Rattle.state.specs.declared.beginning.Opening.{Opening}
-use Rattle.state.specs.declared.beginning.Opening.the-variants.{Accepted, Refused}
+use Rattle.opening.specs.declared.beginning.Opening.{Opening}
+use Rattle.opening.specs.declared.beginning.Opening.the-variants.{Accepted, Refused}
 use Rattle.whole_run.specs.Checksums.{checksum}
 
 -- after an opening with this answer, in this state and memory: the number of its refusal, with the memory as it was; or the

@@ -1,6 +1,6 @@
 -- `begin` returns what the engine's opening returns, and leaves the memory that it leaves.
 use mathlib.Core.Path.{ap}
-use Rattle.state.specs.declared.beginning.Opened.{Opened}
+use Rattle.opening.specs.declared.beginning.Opened.{Opened}
 use borrow.Author.Needs.{needs}
 use Rattle.session.proofs.begin.Statement.{statement}
 use Rattle.session.proofs.begin.Tie as tie

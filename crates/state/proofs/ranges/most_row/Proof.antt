@@ -7,7 +7,7 @@ use borrow.Author.Needs.{needs}
 use Rattle.rules.specs.Lists.{table}
 use Rattle.rules.specs.Ranges.{mostAt}
 use Rattle.rules.proofs.lists.ListTables.{getD-table, length-table}
-use Rattle.state.proofs.openings.Filling.{Filled, filled-first, filled-store, filled-all}
+use Rattle.state.proofs.in_range.Filling.{Filled, filled-first, filled-store, filled-all}
 use Rattle.state.proofs.ranges.most_row.Statement.{statement}
 use Rattle.state.proofs.ranges.most_row.Tie as tie
 

@@ -14,14 +14,14 @@ use Rattle.plan.specs.Bytes.{Bytes}
 use Rattle.plan.specs.Plan.{Plan, Valid, encode}
 use Rattle.plan.specs.Reading.{Outcome, accepted, readOf}
 use Rattle.plan.proofs.Theorem.{read-exactly}
 use Rattle.opening.specs.Layout.{laidOut}
 use Rattle.opening.specs.Loading.{loadAs}
 use Rattle.opening.proofs.loading.LoadCases.{turned-down, laid, loading}
 use Rattle.opening.proofs.every_run.Demands.{demands}
-use Rattle.state.specs.declared.beginning.Opening.{Opening}
-use Rattle.state.specs.declared.beginning.Opened.{Opened}
+use Rattle.opening.specs.declared.beginning.Opening.{Opening}
+use Rattle.opening.specs.declared.beginning.Opened.{Opened}
 use Rattle.state.specs.Machines.{machineOf}
-use Rattle.state.specs.Opened.{openedWith, refusedWith, openedBy, openOf, OpenedRun}
+use Rattle.opening.specs.Opened.{openedWith, refusedWith, openedBy, openOf, OpenedRun}
 
 -- what an accepting outcome tells
 accepting : (o : Outcome) (workers : ℕ) (m : List ℕ) → openedBy (loadAs o workers m .0) workers m .answer ≡ Opening.Accepted →

@@ -1,8 +1,8 @@
 -- `beginning::open` meets its contract.
 use borrow.Author.Needs.{needs}
-use Rattle.state.proofs.openings.OpenCases.{refuses, was-read, opens}
-use Rattle.state.proofs.beginning.open.Statement.{statement}
-use Rattle.state.proofs.beginning.open.Tie as tie
+use Rattle.opening.proofs.openings.OpenCases.{refuses, was-read, opens}
+use Rattle.opening.proofs.beginning.open.Statement.{statement}
+use Rattle.opening.proofs.beginning.open.Tie as tie
 
 load-requires : tie.Need-load-requires
 load-requires c κs = search needs

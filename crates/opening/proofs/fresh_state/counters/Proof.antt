@@ -3,12 +3,12 @@ use mathlib.Core.Path.{_≡_, refl}
 use Prim.Native.Nat.{_+_, _*_, _≤_, _<_, _-_}
 use native.Mathlib.Omega.{arith}
 use lib.ListN.{length, length-set}
-use Rattle.state.specs.Opened.{openedCounters}
-use Rattle.state.proofs.openings.Filling.{Filled}
-use Rattle.state.proofs.openings.OpenedParts.{counters-first, counters-store, counters-line, counters-all}
+use Rattle.opening.specs.Opened.{openedCounters}
+use Rattle.state.proofs.in_range.Filling.{Filled}
+use Rattle.opening.proofs.openings.OpenedParts.{counters-first, counters-store, counters-line, counters-all}
 use borrow.Author.Needs.{needs}
-use Rattle.state.proofs.fresh_state.counters.Statement.{statement}
-use Rattle.state.proofs.fresh_state.counters.Tie as tie
+use Rattle.opening.proofs.fresh_state.counters.Statement.{statement}
+use Rattle.opening.proofs.fresh_state.counters.Tie as tie
 
 abbrev Inv-loop2 : tie.InvT-loop2
 Inv-loop2 pipes lines serial c₀ line pipe₀ c pipe =

@@ -11,14 +11,14 @@ use Rattle.rules.specs.WholeRuns.{WorkersInRange}
 use Rattle.plan.specs.Plan.{Plan, Valid, encode}
 use Rattle.plan.specs.Reading.{Outcome, accepted, refused}
 use Rattle.tables.specs.State as tables
 use Rattle.opening.specs.Plans.{pipelineOf}
 use Rattle.opening.specs.Demands.{Demands}
 use Rattle.opening.specs.Layout.{laidOut}
 use Rattle.opening.specs.Loading.{loadOf}
 use Rattle.state.specs.Machines.{machineOf}
 use Rattle.state.specs.declared.State.{State}
-use Rattle.state.specs.declared.beginning.Opening.{Opening}
-use Rattle.state.specs.declared.beginning.Opened.{Opened}
+use Rattle.opening.specs.declared.beginning.Opening.{Opening}
+use Rattle.opening.specs.declared.beginning.Opened.{Opened}
 
 -- the state of a machine
 abbrev pub stateOf : Machine tables.State → State

@@ -3,10 +3,10 @@ use native.Mathlib.Omega.{arith}
 use native.Mathlib.Nat.{add-sub-cancel-left}
 use lib.ListN.{drop, length-take}
 use borrow.Author.Needs.{needs}
 use Rattle.opening.proofs.loading.PlanRead.{PlanRead, plan-read}
-use Rattle.state.proofs.openings.OpenCases.{begins}
-use Rattle.state.proofs.beginning.begin.Statement.{statement}
-use Rattle.state.proofs.beginning.begin.Tie as tie
+use Rattle.opening.proofs.openings.OpenCases.{begins}
+use Rattle.opening.proofs.beginning.begin.Statement.{statement}
+use Rattle.opening.proofs.beginning.begin.Tie as tie
 
 -- the file is that of a valid plan
 read-at : (c : tie.After-shared-slice-known) → PlanRead (c .before .args .file .now) (c .before .args .h)

@@ -13,10 +13,10 @@ use Rattle.rules.specs.Choices.{openedCounter}
 use Rattle.rules.proofs.lists.Tests.{by-test}
 use Rattle.rules.proofs.invariant.Counters.{length-tabled, tabled-used, tabled-unused}
 use Rattle.rules.specs.PipeKinds.{kindOf}
 use Rattle.opening.specs.Plans.{serialOf}
 use Rattle.rules.specs.PipeKinds.{serialKind}
-use Rattle.state.specs.Opened.{openedCounters}
-use Rattle.state.proofs.openings.Filling.{Filled, filled-first, filled-store, filled-skip, filled-all}
+use Rattle.opening.specs.Opened.{openedCounters}
+use Rattle.state.proofs.in_range.Filling.{Filled, filled-first, filled-store, filled-skip, filled-all}
 
 module _ (serial : List Bool) (pipes lines : ℕ) where
   abbrev frame : Pipeline

@@ -1,6 +1,4 @@
 -- An opening, proved part by part. Reading order:
--- a walk that fills a list of zeros;
-pub mod Filling
 -- the counters and the kinds of the pipes at opening;
 pub mod OpenedParts
 -- the opening, case by case;

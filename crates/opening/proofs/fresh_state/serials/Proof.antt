@@ -3,10 +3,10 @@ use mathlib.Core.Path.{_≡_, refl}
 use Prim.Native.Nat.{_≤_, _-_}
 use native.Mathlib.Omega.{arith}
 use lib.ListN.{length}
-use Rattle.state.proofs.openings.OpenedParts.{serialsTo, serials-store, serials-all}
+use Rattle.opening.proofs.openings.OpenedParts.{serialsTo, serials-store, serials-all}
 use borrow.Author.Needs.{needs}
-use Rattle.state.proofs.fresh_state.serials.Statement.{statement}
-use Rattle.state.proofs.fresh_state.serials.Tie as tie
+use Rattle.opening.proofs.fresh_state.serials.Statement.{statement}
+use Rattle.opening.proofs.fresh_state.serials.Tie as tie
 
 abbrev Inv-loop : tie.InvT-loop
 Inv-loop bytes serial₀ p₀ p-end serial p = (p-end ≡ length bytes) × (p ≤ length bytes) × (serial ≡ serialsTo bytes p)

@@ -1,12 +1,12 @@
 -- `beginning::refused` meets its contract.
 use mathlib.Core.Path.{ap}
 use borrow.Author.Needs.{needs}
 use Rattle.state.specs.declared.State.{State}
-use Rattle.state.specs.declared.beginning.Opening.{Opening}
-use Rattle.state.specs.declared.beginning.Opened.{Opened}
-use Rattle.state.specs.Opened.{refusedWith}
-use Rattle.state.proofs.beginning.refused.Statement.{statement}
-use Rattle.state.proofs.beginning.refused.Tie as tie
+use Rattle.opening.specs.declared.beginning.Opening.{Opening}
+use Rattle.opening.specs.declared.beginning.Opened.{Opened}
+use Rattle.opening.specs.Opened.{refusedWith}
+use Rattle.opening.proofs.beginning.refused.Statement.{statement}
+use Rattle.opening.proofs.beginning.refused.Tie as tie
 
 fresh-requires : tie.Need-fresh-requires
 fresh-requires c κs = search needs

@@ -5,14 +5,14 @@ ghost use Prim.Native.Nat.{_+_, _≤_};
 ghost use lib.ListN.{length};
 ghost use Rattle.rules.specs.Choices.{openedCounter};
 ghost use Rattle.rules.specs.PipeKinds.{kindOf};
 ghost use Rattle.opening.specs.Plans.{serialOf};
-ghost use Rattle.state.specs.Opened.{openedCounters, freshState};
-use crate::State;
-use crate::limits::COUNTERS;
-use crate::limits::COUNTERS_OF_LINE;
-use crate::limits::FLAGS;
-use crate::limits::SLOTS;
+ghost use Rattle.opening.specs.Opened.{openedCounters, freshState};
 use rules::PipeKind;
+use state::COUNTERS;
+use state::COUNTERS_OF_LINE;
+use state::FLAGS;
+use state::SLOTS;
+use state::State;
 
 // Which pipes are serial, by their file bytes.
 pub(crate) fn serials(bytes: &[u8]) -> [bool; 16]

@@ -10,14 +10,14 @@ use Rattle.rules.specs.PipeKinds.{kindOf}
 use Rattle.plan.specs.Reading.{readOf, readingOf}
 use Rattle.plan.specs.declared.trailer.Header.{Header}
 use Rattle.plan.specs.declared.Reading.{Reading}
 use Rattle.opening.specs.Plans.{serialOf}
 use Rattle.opening.specs.Loading.{loadOf}
 use Rattle.opening.proofs.loading.PlanRead.{PlanRead, refused-read}
 use Rattle.opening.proofs.loading.LoadCases.{loaded-read}
 use Rattle.state.specs.declared.State.{State}
-use Rattle.state.specs.declared.beginning.Opening.{Opening}
-use Rattle.state.specs.declared.beginning.Opened.{Opened}
-use Rattle.state.specs.Opened.{openedCounters, freshState, refusedWith, openedWith, openedBy, openOf}
+use Rattle.opening.specs.declared.beginning.Opening.{Opening}
+use Rattle.opening.specs.declared.beginning.Opened.{Opened}
+use Rattle.opening.specs.Opened.{openedCounters, freshState, refusedWith, openedWith, openedBy, openOf}
 
 -- the run of a plan that was read
 module _ (file : List ℕ) (workers : ℕ) {h : Header} (read : PlanRead file h) where

@@ -4,8 +4,8 @@ use borrow.Author.Tests.{eq-eqb, ne-eqb}
 use Rattle.rules.specs.PipeKinds.{fullOf}
 use Rattle.rules.specs.Choices.{openedCounter}
 use borrow.Author.Needs.{needs}
-use Rattle.state.proofs.fresh_state.counter.Statement.{statement}
-use Rattle.state.proofs.fresh_state.counter.Tie as tie
+use Rattle.opening.proofs.fresh_state.counter.Statement.{statement}
+use Rattle.opening.proofs.fresh_state.counter.Tie as tie
 
 returns : tie.Need-returns
 unfolding openedCounter

@@ -4,16 +4,16 @@ ghost use mathlib.Core.List.{List};
 ghost use Prim.Native.Nat.{ℕ};
 ghost use Rattle.plan.specs.Reading.{readOf, readingOf};
 ghost use Rattle.plan.specs.declared.Reading.{Reading};
-ghost use Rattle.state.specs.Opened.{refusedWith, openedBy, openOf};
-use crate::State;
+ghost use Rattle.opening.specs.Opened.{refusedWith, openedBy, openOf};
 use crate::fresh_state::counters;
 use crate::fresh_state::fresh;
 use crate::fresh_state::serials;
-use crate::limits::COUNTERS;
-use crate::limits::FLAGS;
 use plan::Header;
 use plan::Reading;
 use rules::Refusal;
+use state::COUNTERS;
+use state::FLAGS;
+use state::State;
 
 // What opening answers.
 pub enum Opening {
@@ -59,7 +59,7 @@ pub fn open(file: &[u8], workers: u16, mem: &mut [u16]) -> Opened
     ensures answer { λ r. ⌜ r ≡ openOf (now (file .entry)) workers (now (mem .entry)) .0 ⌝ }
     ensures memory { λ _. ⌜ now (mem .exit) ≡ openOf (now (file .entry)) workers (now (mem .entry)) .1 ⌝ }
 {
-    match opening::load(file, workers, mem) {
+    match crate::load(file, workers, mem) {
         Reading::Refused(r) => refused(r),
         Reading::Accepted(h) => begin(file, h, workers),
     }
