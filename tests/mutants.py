@@ -29,7 +29,7 @@ from collections import Counter
 from pathlib import Path
 
 ROOT = Path(__file__).resolve().parent.parent
-CRATES = ["rules", "plan", "tables", "state", "opening", "engine", "whole_run", "session"]
+CRATES = ["rules", "plan", "tables", "printing", "state", "opening", "engine", "whole_run", "session"]
 KINDS = ["comparison", "constant", "swap", "drop"]
 
 # Without --all a function with a contract gets one mutant, or two if many can be made of it. Of
@@ -49,7 +49,7 @@ KNOWN = {
         "if POSITIONS < place {",
         "the same: at the place POSITIONS the next test but one, POSITIONS < place + 1 + count, holds whatever the count is",
     ),
-    "session/sink.rt:written:constant-5": ("sum: 0,", "the sum of a sink that writes is never looked at"),
+    "printing/sink.rt:written:constant-5": ("sum: 0,", "the sum of a sink that writes is never looked at"),
 }
 
 

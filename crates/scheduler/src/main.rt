@@ -1,7 +1,7 @@
 // The program of document 01: it reads plan.bin, then W and the choices from standard input, and prints a line for each choice.
 use libc::STDIN_FILENO;
+use printing::Sink;
 use session::Session;
-use session::Sink;
 
 // What one reading of the input leads to: whether there was any, and the run.
 struct Turn {

@@ -6,16 +6,10 @@ ghost use Rattle.tables.specs.Calls.{memorySource};
 ghost use Rattle.state.specs.Machines.{machineOf};
 ghost use Rattle.opening.specs.Opened.{openOf};
 ghost use Rattle.session.specs.Begun.{isAccepted};
-
-mod sink;
-mod text;
-
 use engine::Opening;
 use engine::State;
+use printing::Sink;
 use rules::Line;
-pub use sink::Sink;
-pub use text::put_number;
-pub use text::put_refusal;
 
 // A run that goes on, and where its output goes.
 pub struct Session {
@@ -40,7 +34,7 @@ pub fn begin(file: &[u8], workers: u8, mem: &mut [u16], sink: Sink, out: &mut [u
     let state = opened.state;
     match answer {
         Opening::Refused(why) => {
-            let said = text::put_refusal(sink, out, why);
+            let said = printing::put_refusal(sink, out, why);
             Begun {
                 accepted: false,
                 session: Session {
@@ -70,7 +64,7 @@ pub fn choose(session: Session, choice: u8, mem: &mut [u16], out: &mut [u8]) -> 
     let answer = chosen.answer;
     Session {
         state: after,
-        sink: text::put_answer(sink, out, answer),
+        sink: printing::put_answer(sink, out, answer),
     }
 }
 

@@ -3,7 +3,7 @@ mod plans;
 mod runs;
 mod stored;
 
-use session::Sink;
+use printing::Sink;
 use stored::Turn;
 
 // The next stored run, or plan.

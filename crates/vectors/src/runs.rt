@@ -2,8 +2,8 @@
 // `# lines sum` is printed, the digest of the output.
 use crate::stored;
 use crate::stored::Turn;
+use printing::Sink;
 use session::Session;
-use session::Sink;
 
 // Choices made from a seed: so many, each below a modulus.
 struct Made {
@@ -43,8 +43,8 @@ fn feed_made(session: Session, made: Made, mem: &mut [u16], out: &mut [u8]) -> S
 
 // The digest, printed.
 fn put_digest(sink: Sink, out: &mut [u8], lines: u64, sum: u64) -> Sink {
-    let s = session::put_number(sink.put(out, b"#"), out, lines);
-    let s = session::put_number(s, out, sum);
+    let s = printing::put_number(sink.put(out, b"#"), out, lines);
+    let s = printing::put_number(s, out, sum);
     s.put(out, b"\n")
 }
 

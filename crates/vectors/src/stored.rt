@@ -1,6 +1,6 @@
 // Reading stored numbers and bytes from a file.
 ghost use Rattle.io.specs.Counts.{Counts};
-use session::Sink;
+use printing::Sink;
 
 // What one stored plan or run leads to: whether there was one, and the output.
 pub struct Turn {

@@ -1,8 +1,8 @@
 -- `put_step` is safe: the buffer keeps its length.
 use native.Mathlib.Omega.{arith}
 use borrow.Author.Needs.{needs}
-use Rattle.session.proofs.text.put_step.Statement.{statement}
-use Rattle.session.proofs.text.put_step.Tie as tie
+use Rattle.printing.proofs.text.put_step.Statement.{statement}
+use Rattle.printing.proofs.text.put_step.Tie as tie
 
 cast-put-number : tie.Need-cast-put-number
 cast-put-number c = search needs

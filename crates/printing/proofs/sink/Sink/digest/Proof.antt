@@ -2,8 +2,8 @@
 use Prim.Native.Nat.{_≤_, _-_}
 use lib.ListN.{length}
 use borrow.Author.Needs.{needs}
-use Rattle.session.proofs.sink.Sink.digest.Statement.{statement}
-use Rattle.session.proofs.sink.Sink.digest.Tie as tie
+use Rattle.printing.proofs.sink.Sink.digest.Statement.{statement}
+use Rattle.printing.proofs.sink.Sink.digest.Tie as tie
 
 abbrev Inv-loop : tie.InvT-loop
 Inv-loop bytes sum₀ lines₀ i₀ sum lines i = i ≤ length bytes

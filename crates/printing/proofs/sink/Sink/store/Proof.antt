@@ -4,8 +4,8 @@ use Prim.Native.Nat.{_≤_, _-_}
 use native.Mathlib.Omega.{arith}
 use lib.ListN.{length, length-set}
 use borrow.Author.Needs.{needs}
-use Rattle.session.proofs.sink.Sink.store.Statement.{statement}
-use Rattle.session.proofs.sink.Sink.store.Tie as tie
+use Rattle.printing.proofs.sink.Sink.store.Statement.{statement}
+use Rattle.printing.proofs.sink.Sink.store.Tie as tie
 
 abbrev Inv-loop : tie.InvT-loop
 Inv-loop self out₀ text from size count i₀ out i = (i ≤ count) × (length out ≡ length out₀)

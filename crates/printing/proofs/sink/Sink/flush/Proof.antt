@@ -3,8 +3,8 @@ use mathlib.Core.Path.{sym}
 use native.Mathlib.Omega.{arith}
 use lib.Seq.{length-take-le}
 use borrow.Author.Needs.{needs}
-use Rattle.session.proofs.sink.Sink.flush.Statement.{statement}
-use Rattle.session.proofs.sink.Sink.flush.Tie as tie
+use Rattle.printing.proofs.sink.Sink.flush.Statement.{statement}
+use Rattle.printing.proofs.sink.Sink.flush.Tie as tie
 
 returns : tie.Need-returns
 returns c = search needs
