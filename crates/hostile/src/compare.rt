@@ -6,16 +6,8 @@ use tables::Tables;
 fn same_flags(a: [bool; 16], b: [bool; 16]) -> bool {
     let mut i: usize = 0;
     while i < 16 {
-        let x = a[i];
-        let y = b[i];
-        if x {
-            if !y {
-                return false;
-            }
-        } else {
-            if y {
-                return false;
-            }
+        if a[i] != b[i] {
+            return false;
         }
         i += 1;
     }
@@ -126,17 +118,6 @@ pub fn same_memory(a: [u16; 32768], b: [u16; 32768]) -> bool {
     let mut i: usize = 0;
     while i < 32768 {
         if a[i] != b[i] {
-            return false;
-        }
-        i += 1;
-    }
-    true
-}
-
-pub fn all_zero(a: [u16; 32767]) -> bool {
-    let mut i: usize = 0;
-    while i < 32767 {
-        if a[i] != 0 {
             return false;
         }
         i += 1;

@@ -1,0 +1,118 @@
+// The tries: choices on spoiled runs, and openings that are refused. Each is a line `VERB N EDITS:NAME` of data/tries.txt.
+//     c    line N is chosen, on the run at opening with these edits
+//     o    the plan is opened with N workers
+//     e    an empty file is opened with N workers
+// In capitals, C and O, with one number too few lent.
+use crate::compare;
+use crate::edits;
+use crate::report;
+use crate::report::Run;
+use crate::report::Trial;
+use crate::stored;
+use engine::Chosen;
+use engine::Opened;
+use engine::State;
+use rules::Line;
+
+fn memory_of_zeros() -> [u16; 32768] {
+    [0u16; 32768]
+}
+
+fn memory_of_sevens() -> [u16; 32768] {
+    [7u16; 32768]
+}
+
+// The run at opening, with 2 workers.
+fn opened(file: &[u8]) -> Run {
+    let mut mem = memory_of_zeros();
+    let opened = engine::open(file, 2, &mut mem);
+    let state = opened.state;
+    Run {
+        state: state,
+        mem: mem,
+    }
+}
+
+// A choice, with one number too few lent where that is asked for.
+fn choose(state: State, mem: &mut [u16], line: u16, short: bool) -> Chosen {
+    let count = mem.len();
+    if short {
+        if 0 < count {
+            return engine::choose(state, &mut mem[..count - 1], Line(line));
+        }
+    }
+    engine::choose(state, mem, Line(line))
+}
+
+// An opening, likewise.
+fn open(file: &[u8], workers: u16, mem: &mut [u16], short: bool) -> Opened {
+    let count = mem.len();
+    if short {
+        if 0 < count {
+            return engine::open(file, workers, &mut mem[..count - 1]);
+        }
+    }
+    engine::open(file, workers, mem)
+}
+
+fn chosen_trial(before: State, chosen: Chosen, memory: bool) -> Trial {
+    let answer = chosen.answer;
+    let state = chosen.state;
+    Trial {
+        number: report::number_of(answer),
+        state: compare::same_state(state, before),
+        memory: memory,
+    }
+}
+
+fn choice(run: Run, line: u16, short: bool) -> Trial {
+    let state = run.state;
+    let before = run.mem;
+    let mut mem = run.mem;
+    let chosen = choose(state, &mut mem, line, short);
+    chosen_trial(state, chosen, compare::same_memory(mem, before))
+}
+
+fn opened_trial(opened: Opened, memory: bool) -> Trial {
+    let answer = opened.answer;
+    let state = opened.state;
+    Trial {
+        number: report::opening_number(answer),
+        state: compare::same_state(state, edits::zeros()),
+        memory: memory,
+    }
+}
+
+// An opening, on a memory of sevens that a refusal leaves as it was, and with a state that is then one of zeros.
+fn opening(file: &[u8], workers: u16, short: bool) -> Trial {
+    let mut mem = memory_of_sevens();
+    let opened = open(file, workers, &mut mem, short);
+    opened_trial(opened, compare::same_memory(mem, memory_of_sevens()))
+}
+
+fn tried(verb: u8, n: u16, run: Run, file: &[u8]) -> Trial {
+    if verb == b'c' {
+        return choice(run, n, false);
+    }
+    if verb == b'C' {
+        return choice(run, n, true);
+    }
+    if verb == b'e' {
+        return opening(b"", n, false);
+    }
+    opening(file, n, verb == b'O')
+}
+
+// The next try, if there is one.
+pub fn next(fd: i32, file: &[u8]) -> bool {
+    let verb = stored::byte(fd);
+    if verb == 0 {
+        return false;
+    }
+    let n = stored::number(fd);
+    let run = edits::spoiled(fd, opened(file));
+    let trial = tried(verb, n, run, file);
+    stored::print_line(fd);
+    report::say(trial);
+    true
+}
