@@ -19,19 +19,17 @@ pub struct Trial {
 
 // The number of a refusal; 0 for an event.
 pub fn number_of(answer: Answer) -> u16 {
-    match answer {
-        Answer::Refused(why) => why.number(),
-        Answer::Started(_) => 0,
-        Answer::Finished(_) => 0,
-        Answer::Stopped(_) => 0,
-    }
+    let Answer::Refused(why) = answer else {
+        return 0;
+    };
+    why.number()
 }
 
 pub fn opening_number(answer: Opening) -> u16 {
-    match answer {
-        Opening::Refused(why) => why.number(),
-        Opening::Accepted => 0,
-    }
+    let Opening::Refused(why) = answer else {
+        return 0;
+    };
+    why.number()
 }
 
 fn say_same(same: bool) {

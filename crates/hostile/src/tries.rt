@@ -3,6 +3,7 @@
 //     o    the plan is opened with N workers
 //     e    an empty file is opened with N workers
 // In capitals, C and O, with one number too few lent.
+ghost use Prim.Native.Nat.{_≤_};
 use crate::compare;
 use crate::edits;
 use crate::report;
@@ -33,26 +34,26 @@ fn opened(file: &[u8]) -> Run {
     }
 }
 
-// A choice, with one number too few lent where that is asked for.
-fn choose(state: State, mem: &mut [u16], line: u16, short: bool) -> Chosen {
-    let count = mem.len();
+// How many numbers are lent: all, or one too few.
+fn lent(all: usize, short: bool) -> usize
+    ensures { λ r. ⌜ r ≤ all ⌝ }
+{
     if short {
-        if 0 < count {
-            return engine::choose(state, &mut mem[..count - 1], Line(line));
+        if 0 < all {
+            return all - 1;
         }
     }
-    engine::choose(state, mem, Line(line))
+    all
 }
 
-// An opening, likewise.
+fn choose(state: State, mem: &mut [u16], line: u16, short: bool) -> Chosen {
+    let count = lent(mem.len(), short);
+    engine::choose(state, &mut mem[..count], Line(line))
+}
+
 fn open(file: &[u8], workers: u16, mem: &mut [u16], short: bool) -> Opened {
-    let count = mem.len();
-    if short {
-        if 0 < count {
-            return engine::open(file, workers, &mut mem[..count - 1]);
-        }
-    }
-    engine::open(file, workers, mem)
+    let count = lent(mem.len(), short);
+    engine::open(file, workers, &mut mem[..count])
 }
 
 fn chosen_trial(before: State, chosen: Chosen, memory: bool) -> Trial {

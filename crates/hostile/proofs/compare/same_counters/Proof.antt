@@ -5,22 +5,19 @@ use Rattle.hostile.proofs.compare.same_counters.Statement.{statement}
 use Rattle.hostile.proofs.compare.same_counters.Tie as tie
 
 abbrev Inv-loop : tie.InvT-loop
-Inv-loop a b i₀ i = i ≤ 512
+Inv-loop a b same₀ i₀ same i = i ≤ 512
 
 abbrev μ-loop : tie.MeasureT-loop
-μ-loop a b i₀ i = 512 - i
+μ-loop a b same₀ i₀ same i = 512 - i
 
 loop-holds : tie.Need-loop-holds Inv-loop μ-loop
 loop-holds c = search needs
 
-array-read-if1 : tie.Need-array-read-if1 Inv-loop μ-loop
-array-read-if1 c = search needs
+array-read-same : tie.Need-array-read-same Inv-loop μ-loop
+array-read-same c = search needs
 
-array-read-if1-2 : tie.Need-array-read-if1-2 Inv-loop μ-loop
-array-read-if1-2 c = search needs
-
-returns : tie.Need-returns Inv-loop μ-loop
-returns c = search needs
+array-read-same-2 : tie.Need-array-read-same-2 Inv-loop μ-loop
+array-read-same-2 c = search needs
 
 add-i : tie.Need-add-i Inv-loop μ-loop
 add-i c = search needs
@@ -31,8 +28,8 @@ loop-less c = search needs
 loop-again : tie.Need-loop-again Inv-loop μ-loop
 loop-again c = search needs
 
-returns-2 : tie.Need-returns-2 Inv-loop μ-loop
-returns-2 c = search needs
+returns : tie.Need-returns Inv-loop μ-loop
+returns c = search needs
 
 pub same-counters-spec : {M : Type 1} → statement M
 same-counters-spec =
@@ -41,10 +38,9 @@ same-counters-spec =
     Inv-loop
     μ-loop
     loop-holds
-    array-read-if1
-    array-read-if1-2
-    returns
+    array-read-same
+    array-read-same-2
     add-i
     loop-less
     loop-again
-    returns-2)
+    returns)

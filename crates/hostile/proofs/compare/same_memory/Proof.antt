@@ -5,28 +5,25 @@ use Rattle.hostile.proofs.compare.same_memory.Statement.{statement}
 use Rattle.hostile.proofs.compare.same_memory.Tie as tie
 
 abbrev Inv-loop : tie.InvT-loop
-Inv-loop a b i₀ i = i ≤ 32768
+Inv-loop a b same₀ i₀ same i = i ≤ 32768
 
 abbrev μ-loop : tie.MeasureT-loop
-μ-loop a b i₀ i = 32768 - i
+μ-loop a b same₀ i₀ same i = 32768 - i
 
 loop-holds : tie.Need-loop-holds Inv-loop μ-loop
 loop-holds c = search needs
 
-mul-if1 : tie.Need-mul-if1 Inv-loop μ-loop
-mul-if1 c = search needs
+mul-same : tie.Need-mul-same Inv-loop μ-loop
+mul-same c = search needs
 
-array-read-if1 : tie.Need-array-read-if1 Inv-loop μ-loop
-array-read-if1 c = search needs
+array-read-same : tie.Need-array-read-same Inv-loop μ-loop
+array-read-same c = search needs
 
-mul-if1-2 : tie.Need-mul-if1-2 Inv-loop μ-loop
-mul-if1-2 c = search needs
+mul-same-2 : tie.Need-mul-same-2 Inv-loop μ-loop
+mul-same-2 c = search needs
 
-array-read-if1-2 : tie.Need-array-read-if1-2 Inv-loop μ-loop
-array-read-if1-2 c = search needs
-
-returns : tie.Need-returns Inv-loop μ-loop
-returns c = search needs
+array-read-same-2 : tie.Need-array-read-same-2 Inv-loop μ-loop
+array-read-same-2 c = search needs
 
 add-i : tie.Need-add-i Inv-loop μ-loop
 add-i c = search needs
@@ -37,8 +34,8 @@ loop-less c = search needs
 loop-again : tie.Need-loop-again Inv-loop μ-loop
 loop-again c = search needs
 
-returns-2 : tie.Need-returns-2 Inv-loop μ-loop
-returns-2 c = search needs
+returns : tie.Need-returns Inv-loop μ-loop
+returns c = search needs
 
 pub same-memory-spec : {M : Type 1} → statement M
 same-memory-spec =
@@ -47,12 +44,11 @@ same-memory-spec =
     Inv-loop
     μ-loop
     loop-holds
-    mul-if1
-    array-read-if1
-    mul-if1-2
-    array-read-if1-2
-    returns
+    mul-same
+    array-read-same
+    mul-same-2
+    array-read-same-2
     add-i
     loop-less
     loop-again
-    returns-2)
+    returns)

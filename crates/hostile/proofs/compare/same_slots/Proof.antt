@@ -5,10 +5,10 @@ use Rattle.hostile.proofs.compare.same_slots.Statement.{statement}
 use Rattle.hostile.proofs.compare.same_slots.Tie as tie
 
 abbrev Inv-loop : tie.InvT-loop
-Inv-loop a b i₀ i = i ≤ 32
+Inv-loop a b same₀ i₀ same i = i ≤ 32
 
 abbrev μ-loop : tie.MeasureT-loop
-μ-loop a b i₀ i = 32 - i
+μ-loop a b same₀ i₀ same i = 32 - i
 
 loop-holds : tie.Need-loop-holds Inv-loop μ-loop
 loop-holds c = search needs
@@ -40,9 +40,6 @@ loop-again c = search needs
 returns : tie.Need-returns Inv-loop μ-loop
 returns c = search needs
 
-returns-2 : tie.Need-returns-2 Inv-loop μ-loop
-returns-2 c = search needs
-
 pub same-slots-spec : {M : Type 1} → statement M
 same-slots-spec =
     tie.close
@@ -58,5 +55,4 @@ same-slots-spec =
     add-i
     loop-less
     loop-again
-    returns
-    returns-2)
+    returns)
