@@ -1,6 +1,4 @@
 -- A choice, proved part by part. Reading order:
--- how many lines run;
-pub mod Lines
 -- what the tables' answers tell, and that N stays as it is;
 pub mod Kept
 -- the machine of a state with some new parts, and a refusal;

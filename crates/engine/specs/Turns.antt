@@ -7,6 +7,7 @@ use Rattle.rules.specs.declared.Slot.{Slot}
 use Rattle.rules.specs.RunState.{Machine, idle}
 use Rattle.rules.specs.Choices as rules
 use Rattle.tables.specs.State as tables
+use Rattle.tables.specs.Calls.{memorySource}
 use Rattle.state.specs.declared.State.{State}
 use Rattle.state.specs.declared.Figures.{Figures}
 use Rattle.state.specs.Machines.{machineOf, whole}
@@ -48,3 +49,9 @@ abbrev pub Follows : (Machine tables.State → ℕ → rules.Chosen tables.State
 Follows rule f counters l slot turn m m′ =
     (slots : List Slot) → getD slots l idle ≡ slot →
     chosenOf (turned (whole f counters slots) l turn) m′ ≡ rule (machineOf (whole f counters slots) m) l
+
+-- it is what the rules make of the line in every such state where so many lines run
+abbrev pub MovesAs : Figures → List ℕ → Slot → ℕ → ℕ → Turn → List ℕ → List ℕ → Type 0
+MovesAs f counters slot running l turn m m′ =
+    (slots : List Slot) → getD slots l idle ≡ slot → running ≡ rules.runningBelow slots (f .lines) →
+    chosenOf (turned (whole f counters slots) l turn) m′ ≡ rules.move memorySource (machineOf (whole f counters slots) m) l

@@ -1,6 +1,5 @@
 // The engine: a run is opened, each choice moves it on, and it can be asked whether it has ended.
 mod finishing;
-mod running;
 mod starting;
 mod turn;
 
@@ -17,13 +16,11 @@ pub use state::State;
 pub use state::ended;
 use turn::Turn;
 ghost use mathlib.Core.Path.{_≡_};
-ghost use lib.ListN.{getD};
-ghost use Rattle.rules.specs.RunState.{idle};
-ghost use Rattle.rules.specs.Choices.{choose as chosenBy, move as movedBy};
+ghost use Rattle.rules.specs.Choices.{choose as chosenBy};
 ghost use Rattle.tables.specs.Calls.{memorySource};
 ghost use Rattle.state.specs.Machines.{machineOf, whole, Ready};
 ghost use Rattle.engine.specs.Machines.{chosenOf};
-ghost use Rattle.engine.specs.Turns.{turned, Fits};
+ghost use Rattle.engine.specs.Turns.{turned, Fits, MovesAs};
 
 // What a choice returns: its answer, and the state after it.
 pub struct Chosen {
@@ -31,29 +28,27 @@ pub struct Chosen {
     pub state: State,
 }
 
-// A choice of a line below L, in a run that has not ended.
+// A choice of a line below L, in a run that has not ended: what the line does, and how many lines run, is known.
 fn move_line(
     f: Figures,
-    slots: [Slot; 32],
+    slot: Slot,
+    running: u16,
     counters: &[u8; 512],
     mem: &mut [u16],
     line: Line,
 ) -> Turn
-    requires { ⌜ Ready f (getD slots (line .0) idle) (line .0) ⌝ }
+    requires { ⌜ Ready f slot (line .0) ⌝ }
     ensures fits { λ r. ⌜ Fits (line .0) r ⌝ }
-    ensures moves { λ r. ⌜ chosenOf (turned (whole f (now (counters .entry)) slots) (line .0) r) (now (mem .exit)) ≡
-        movedBy memorySource (machineOf (whole f (now (counters .entry)) slots) (now (mem .entry))) (line .0) ⌝ }
+    ensures moves { λ r. ⌜ MovesAs f (now (counters .entry)) slot running (line .0) r (now (mem .entry)) (now (mem .exit)) ⌝ }
 {
-    let l = line.0 as usize;
-    let slot = slots[l];
     if slot.running {
         return finishing::finish(f, slot, counters, mem, line);
     }
-    let at = COUNTERS_OF_LINE * l + slot.pipe.0 as usize;
+    let at = COUNTERS_OF_LINE * line.0 as usize + slot.pipe.0 as usize;
     if counters[at] != 0 {
         return Turn::Refused(Refusal::Early);
     }
-    if f.workers <= running::count_running(slots, f.lines) {
+    if f.workers <= running {
         return Turn::Refused(Refusal::Crowded);
     }
     starting::start(f, slot, mem, line)
@@ -65,7 +60,8 @@ fn turn_of(f: Figures, slots: [Slot; 32], counters: &[u8; 512], mem: &mut [u16],
     ensures chooses { λ r. ⌜ chosenOf (turned (whole f (now (counters .entry)) slots) (line .0) r) (now (mem .exit)) ≡
         chosenBy memorySource (machineOf (whole f (now (counters .entry)) slots) (now (mem .entry))) (line .0) ⌝ }
 {
-    if !state::sound(f, slots, counters, mem) {
+    let seen = state::look_over(f, slots, counters, mem, line.0);
+    if !seen.sound {
         return Turn::Refused(Refusal::Spoiled);
     }
     if f.lines <= line.0 {
@@ -74,7 +70,8 @@ fn turn_of(f: Figures, slots: [Slot; 32], counters: &[u8; 512], mem: &mut [u16],
     if state::is_over(f.stopped, f.lines, slots, counters) {
         return Turn::Refused(Refusal::Ended);
     }
-    move_line(f, slots, counters, mem, line)
+    let slot = seen.slot;
+    move_line(f, slot, seen.running, counters, mem, line)
 }
 
 // A choice names a line: it starts, finishes or stops, or the choice is refused.

@@ -1,18 +1,28 @@
 -- The ranges of a state, in the parts that the code tests.
-use mathlib.Core.Bool.{Bool, true}
+use mathlib.Core.Bool.{Bool, false}
 use mathlib.Core.List.{List, [], _∷_}
-use Prim.Native.Nat.{ℕ, _+_, _-_}
-use lib.Dec.{leb}
+use Prim.Native.Nat.{ℕ, zero, suc, _+_, _-_}
+use lib.Dec.{leb, ltb, eqb}
 use lib.ListN.{getD}
-use Rattle.rules.specs.Lists.{if, all, within, every}
+use Rattle.rules.specs.Lists.{if, all, within, every, table}
 use Rattle.rules.specs.declared.Slot.{Slot}
-use Rattle.rules.specs.RunState.{counterAt}
-use Rattle.rules.specs.Ranges.{isIdle, isLoaded}
+use Rattle.rules.specs.RunState.{idle, counterAt}
+use Rattle.rules.specs.Choices.{runningBelow}
+use Rattle.rules.specs.Ranges.{isIdle}
 use Rattle.state.specs.declared.Figures.{Figures}
+use Rattle.state.specs.declared.slots.Tally.{Tally}
 
 -- a test holds of each number from one up to another
 unfoldable pub everyFrom : ℕ → ℕ → (ℕ → Bool) → Bool
 everyFrom from to f = every (to - from) (λ i. f (from + i))
+
+-- the larger of two numbers, and the highest of a function's first values; 0 if there are none
+unfoldable pub larger : ℕ → ℕ → ℕ
+larger a b = if (ltb a b) b a
+
+unfoldable pub highest : ℕ → (ℕ → ℕ) → ℕ
+highest zero f = 0
+highest (suc n) f = larger (highest n f) (f n)
 
 -- P, L, N, W and the places
 unfoldable pub figuresSound : Figures → Bool
@@ -21,17 +31,35 @@ figuresSound f =
     within 1 16 (f .pipes) ∷ within 1 32 (f .lines) ∷ leb (f .tables .tokens) 4096 ∷ within 1 32 (f .workers) ∷
     leb (f .placed) (f .tables .tokens) ∷ [])
 
--- the counter of a line at a pipe, and the counters of a line, by the most that those of each pipe may be
-unfoldable pub cellSound : List ℕ → List ℕ → ℕ → ℕ → Bool
-cellSound counters most l p = leb (getD counters (counterAt l p) 0) (getD most p 0)
+-- the flags: pipe 0 is serial, and what is no pipe of the plan is not
+unfoldable pub flagSound : ℕ → List Bool → ℕ → Bool
+flagSound pipes serial p = if (getD serial p false) (ltb p pipes) (ltb 0 p)
 
-unfoldable pub rowSound : List ℕ → List ℕ → ℕ → Bool
-rowSound counters most l = every 16 (cellSound counters most l)
+-- the highest counters of some lines, one at each pipe; and the same with one line more
+unfoldable pub highestRow : List ℕ → ℕ → ℕ → List ℕ
+highestRow counters from to = table 16 (λ p. highest (to - from) (λ i. getD counters (counterAt (from + i) p) 0))
 
--- a slot of these numbers; and whether a slot is sound as that of a line of the plan
-abbrev pub slotWith : ℕ → Bool → ℕ → ℕ → Slot
-slotWith pipe running token place =
-    record { pipe = record { 0 = pipe }; running = running; token = record { 0 = token }; place = record { 0 = place } }
+unfoldable pub raisedRow : List ℕ → List ℕ → ℕ → List ℕ
+raisedRow counters row l = table 16 (λ p. larger (getD row p 0) (getD counters (counterAt l p) 0))
 
-unfoldable pub usedSound : ℕ → ℕ → Slot → Bool
-usedSound pipes tokens s = if (isIdle s) true (isLoaded pipes tokens s)
+-- no number of a row is above that of another
+unfoldable pub rowWithin : List ℕ → List ℕ → Bool
+rowWithin row most = every 16 (λ p. leb (getD row p 0) (getD most p 0))
+
+-- what a slot holds: its token or its place, whichever is higher
+unfoldable pub heldOf : Slot → ℕ
+heldOf s = larger (s .token .0) (s .place .0)
+
+-- what a walk over the slots finds, of the first ones and of the others
+unfoldable pub tallyOf : List Slot → ℕ → ℕ → Tally
+tallyOf slots used line = record {
+  pipe = highest used (λ l. getD slots l idle .pipe .0);
+  held = highest used (λ l. heldOf (getD slots l idle));
+  running = runningBelow slots used;
+  rest = everyFrom used 32 (λ l. isIdle (getD slots l idle));
+  slot = getD slots line idle;
+}
+
+-- and whether all slots are then within their ranges: in a plan without tokens all are idle
+unfoldable pub fitsOf : Tally → ℕ → ℕ → Bool
+fitsOf t pipes tokens = if (eqb tokens 0) (t .rest) (all (ltb (t .pipe) pipes ∷ ltb (t .held) tokens ∷ t .rest ∷ []))

@@ -1,7 +1,9 @@
 // The state of a run: its numbers and their ranges, and its end.
+mod counters;
 mod ending;
 mod limits;
 mod ranges;
+mod slots;
 
 pub use ending::is_over;
 pub use limits::COUNTERS;
@@ -9,7 +11,8 @@ pub use limits::COUNTERS_OF_LINE;
 pub use limits::FLAGS;
 pub use limits::MOST_WORKERS;
 pub use limits::SLOTS;
-pub use ranges::sound;
+pub use ranges::Survey;
+pub use ranges::look_over;
 use rules::Slot;
 use tables::Tables;
 ghost use mathlib.Core.Path.{_≡_};

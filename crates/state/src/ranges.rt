@@ -1,41 +1,43 @@
-// Whether every number of a run's state is within its range. It is asked at every choice: so the counters are lent and not
-// copied, and a row of them, or of flags, is compared to its end, which takes a few instructions for all 16.
+// A state looked over, as each choice does first: whether every number of it is within its range.
 use crate::Figures;
-use crate::limits::COUNTERS_OF_LINE;
-use crate::limits::FLAGS;
+use crate::counters;
 use crate::limits::MOST_LINES;
 use crate::limits::MOST_PIPES;
 use crate::limits::MOST_TOKENS;
 use crate::limits::MOST_WORKERS;
 use crate::limits::SLOTS;
-use rules::PipeKind;
+use crate::slots;
+use rules::Pipe;
+use rules::Place;
 use rules::Slot;
+use rules::Token;
 ghost use mathlib.Core.Path.{_≡_};
-ghost use mathlib.Core.Bool.{true, false};
-ghost use mathlib.Core.List.{_∷_, []};
-ghost use Prim.Native.Nat.{_<_, _≤_};
+ghost use Prim.Native.Nat.{_<_};
 ghost use lib.Dec.{ltb};
-ghost use lib.ListN.{getD};
-ghost use Rattle.rules.specs.Lists.{if, must, all, every, table};
-ghost use Rattle.rules.specs.RunState.{idle, full};
-ghost use Rattle.rules.specs.Ranges.{isIdle, slotSound, mostAt, counterSound, serialSound, sound as soundOf};
-ghost use Rattle.tables.specs.Calls.{memorySource};
-ghost use Rattle.state.specs.Machines.{machineOf, whole};
-ghost use Rattle.state.specs.RangeParts.{everyFrom, figuresSound, rowSound, slotWith, usedSound};
+ghost use Rattle.rules.specs.Lists.{if, every};
+ghost use Rattle.state.specs.RangeParts.{figuresSound, flagSound};
+ghost use Rattle.state.specs.Surveys.{restSound, near as nearOf, spoiled, surveyOf};
 
-// What is no pipe of the plan is not serial.
+// What a look over the state tells: whether it is sound, and if so how many lines run and what the chosen line does.
+pub struct Survey {
+    pub sound: bool,
+    pub running: u16,
+    pub slot: Slot,
+}
+
+// Pipe 0 is serial, and what is no pipe of the plan is not.
 fn flag_sound(serial: bool, p: u8, pipes: u8) -> bool
-    ensures { λ r. ⌜ r ≡ if serial (ltb p pipes) true ⌝ }
+    ensures { λ r. ⌜ r ≡ if serial (ltb p pipes) (ltb 0 p) ⌝ }
 {
     if serial {
         return p < pipes;
     }
-    true
+    0 < p
 }
 
 // The flags of all pipes.
 fn flags_sound(serial: [bool; 16], pipes: u8) -> bool
-    ensures { λ r. ⌜ r ≡ every 16 (serialSound pipes serial) ⌝ }
+    ensures { λ r. ⌜ r ≡ every 16 (flagSound pipes serial) ⌝ }
 {
     let mut ok = true;
     let mut p: u8 = 0;
@@ -49,185 +51,6 @@ fn flags_sound(serial: [bool; 16], pipes: u8) -> bool
         }
     }
     ok
-}
-
-// The most that the counter of a line of the plan may be at a pipe.
-fn most_at(serial: bool, pipes: u8, p: u8) -> u8
-    ensures { λ r. ⌜ r ≡ must (ltb p pipes) 0 (full serial) ⌝ }
-{
-    if pipes <= p {
-        return 0;
-    }
-    let kind = PipeKind::from_flag(serial);
-    kind.full()
-}
-
-// The same for each pipe: no line of the plan differs from the first.
-fn most_row(serial: [bool; 16], pipes: u8) -> [u8; 16]
-    ensures { λ r. ⌜ r ≡ table 16 (mostAt pipes 1 serial 0) ⌝ }
-{
-    let mut most = [0; FLAGS];
-    let mut p: u8 = 0;
-    while p < 16 {
-        let at = p as usize;
-        let flag = serial[at];
-        most[at] = most_at(flag, pipes, p);
-        p += 1;
-    }
-    most
-}
-
-// The counters of a line.
-fn row_sound(counters: &[u8; 512], most: &[u8; 16], l: usize) -> bool
-    requires { ⌜ l < 32 ⌝ }
-    ensures { λ r. ⌜ r ≡ rowSound (now (counters .entry)) (now (most .entry)) l ⌝ }
-{
-    let mut ok = true;
-    let mut p: usize = 0;
-    while p < COUNTERS_OF_LINE {
-        let counter = counters[COUNTERS_OF_LINE * l + p];
-        if most[p] < counter {
-            ok = false;
-            p += 1;
-        } else {
-            p += 1;
-        }
-    }
-    ok
-}
-
-// The counters of some lines.
-fn rows_sound(counters: &[u8; 512], most: &[u8; 16], from: usize, to: usize) -> bool
-    requires { ⌜ (from ≤ to) × (to ≤ 32) ⌝ }
-    ensures { λ r. ⌜ r ≡ everyFrom from to (rowSound (now (counters .entry)) (now (most .entry))) ⌝ }
-{
-    let mut l = from;
-    while l < to {
-        if row_sound(counters, most, l) {
-            l += 1;
-        } else {
-            return false;
-        }
-    }
-    true
-}
-
-// All counters: "unused ones are 0".
-fn counters_sound(counters: &[u8; 512], serial: [bool; 16], pipes: u8, lines: usize) -> bool
-    requires { ⌜ lines ≤ 32 ⌝ }
-    ensures { λ r. ⌜ r ≡ every 512 (counterSound pipes lines serial (now (counters .entry))) ⌝ }
-{
-    let most = most_row(serial, pipes);
-    if !rows_sound(counters, &most, 0, lines) {
-        return false;
-    }
-    let none = [0; FLAGS];
-    rows_sound(counters, &none, lines, SLOTS)
-}
-
-// A line that waits at pipe 0 with no token.
-fn is_idle(s: Slot) -> bool
-    ensures { λ r. ⌜ r ≡ isIdle s ⌝ }
-{
-    if s.pipe.0 != 0 {
-        return false;
-    }
-    if s.running {
-        return false;
-    }
-    if s.token.0 != 0 {
-        return false;
-    }
-    if s.place.0 != 0 {
-        return false;
-    }
-    true
-}
-
-// A line's token and place.
-fn held_sound(token: u16, place: u16, most: u16) -> bool
-    ensures { λ r. ⌜ r ≡ all (ltb token most ∷ ltb place most ∷ []) ⌝ }
-{
-    if most <= token {
-        return false;
-    }
-    place < most
-}
-
-// What they are below at pipe 0: N where the line runs; where it waits it holds no token, and both are 0.
-fn bound_at_first(running: bool, tokens: u16) -> u16
-    ensures { λ r. ⌜ r ≡ if running tokens 1 ⌝ }
-{
-    if running {
-        return tokens;
-    }
-    1
-}
-
-// The slot of a line of the plan. Past pipe 0 it is no matter whether the line runs.
-fn used_sound(pipe: u16, running: bool, token: u16, place: u16, pipes: u16, tokens: u16) -> bool
-    requires { ⌜ 1 ≤ pipes ⌝ }
-    ensures { λ r. ⌜ r ≡ usedSound pipes tokens (slotWith pipe running token place) ⌝ }
-{
-    if 0 < pipe {
-        if pipes <= pipe {
-            return false;
-        }
-        return held_sound(token, place, tokens);
-    }
-    let most = bound_at_first(running, tokens);
-    held_sound(token, place, most)
-}
-
-// The slots of the plan's lines.
-fn used_slots_sound(slots: [Slot; 32], pipes: u16, lines: usize, tokens: u16) -> bool
-    requires { ⌜ (1 ≤ pipes) × (lines ≤ 32) ⌝ }
-    ensures { λ r. ⌜ r ≡ every lines (slotSound pipes lines tokens slots) ⌝ }
-{
-    let mut l: usize = 0;
-    while l < lines {
-        if used_sound(
-            slots[l].pipe.0,
-            slots[l].running,
-            slots[l].token.0,
-            slots[l].place.0,
-            pipes,
-            tokens,
-        ) {
-            l += 1;
-        } else {
-            return false;
-        }
-    }
-    true
-}
-
-// The unused slots.
-fn unused_slots_sound(slots: [Slot; 32], lines: usize) -> bool
-    requires { ⌜ lines ≤ 32 ⌝ }
-    ensures { λ r. ⌜ r ≡ everyFrom lines 32 (λ l. isIdle (getD slots l idle)) ⌝ }
-{
-    let mut l = lines;
-    while l < SLOTS {
-        let slot = slots[l];
-        if is_idle(slot) {
-            l += 1;
-        } else {
-            return false;
-        }
-    }
-    true
-}
-
-// All slots.
-fn slots_sound(slots: [Slot; 32], pipes: u16, lines: usize, tokens: u16) -> bool
-    requires { ⌜ (1 ≤ pipes) × (lines ≤ 32) ⌝ }
-    ensures { λ r. ⌜ r ≡ every 32 (slotSound pipes lines tokens slots) ⌝ }
-{
-    if !used_slots_sound(slots, pipes, lines, tokens) {
-        return false;
-    }
-    unused_slots_sound(slots, lines)
 }
 
 // The single numbers: P, L, N, W and how many tokens have a place.
@@ -258,10 +81,10 @@ fn numbers_sound(f: Figures) -> bool
     f.placed <= f.tables.tokens
 }
 
-// Every number of the state, and of the tables and their memory. The first flag comes after the counters: known before, it
-// would have the counters of pipe 0 compared apart from their row.
-pub fn sound(f: Figures, slots: [Slot; 32], counters: &[u8; 512], mem: &[u16]) -> bool
-    ensures { λ r. ⌜ r ≡ soundOf memorySource (machineOf (whole f (now (counters .entry)) slots) (now (mem .entry))) ⌝ }
+// All but the slots. The flags come after the counters: the first one, known before, would have the counters of pipe 0 compared
+// apart from their row.
+fn rest_sound(f: Figures, counters: &[u8; 512], mem: &[u16]) -> bool
+    ensures { λ r. ⌜ r ≡ restSound f (now (counters .entry)) (now (mem .entry)) ⌝ }
 {
     if !numbers_sound(f) {
         return false;
@@ -269,18 +92,68 @@ pub fn sound(f: Figures, slots: [Slot; 32], counters: &[u8; 512], mem: &[u16]) -
     let pipes = f.pipes as u8;
     let lines = f.lines as usize;
     let serial = f.serial;
+    if !counters::counters_sound(counters, serial, pipes, lines) {
+        return false;
+    }
     if !flags_sound(serial, pipes) {
-        return false;
-    }
-    if !counters_sound(counters, serial, pipes, lines) {
-        return false;
-    }
-    if !slots_sound(slots, f.pipes, lines, f.tables.tokens) {
-        return false;
-    }
-    if !serial[0] {
         return false;
     }
     let t = f.tables;
     tables::sound(mem, t)
+}
+
+// A line that has a slot: the given one, or 0.
+fn near(line: u16) -> usize
+    ensures same { λ r. ⌜ r ≡ nearOf line ⌝ }
+    ensures small { λ r. ⌜ r < 32 ⌝ }
+{
+    let line = line as usize;
+    if line < SLOTS {
+        return line;
+    }
+    0
+}
+
+// What is told of a state that is not sound.
+fn unsound() -> Survey
+    ensures { λ r. ⌜ r ≡ spoiled ⌝ }
+{
+    let slot = Slot {
+        pipe: Pipe(0),
+        running: false,
+        token: Token(0),
+        place: Place(0),
+    };
+    Survey {
+        sound: false,
+        running: 0,
+        slot,
+    }
+}
+
+// Every number of the state, and of the tables and their memory.
+pub fn look_over(
+    f: Figures,
+    slots: [Slot; 32],
+    counters: &[u8; 512],
+    mem: &[u16],
+    line: u16,
+) -> Survey
+    ensures { λ r. ⌜ r ≡ surveyOf f (now (counters .entry)) slots (now (mem .entry)) line ⌝ }
+{
+    if !rest_sound(f, counters, mem) {
+        return unsound();
+    }
+    let tokens = f.tables.tokens;
+    let used = slots::used_lines(f.lines as usize, tokens);
+    let found = slots::walk(slots, used, near(line));
+    if !slots::fits(found, f.pipes, tokens) {
+        return unsound();
+    }
+    let slot = found.slot;
+    Survey {
+        sound: true,
+        running: found.running,
+        slot,
+    }
 }

@@ -1,18 +1,19 @@
 -- `engine::turn_of` meets its contract.
 use borrow.Author.Needs.{needs}
 use borrow.Author.Tests.{not-true, not-false}
+use Rattle.state.proofs.in_range.SurveyLaws.{tells-running}
 use Rattle.engine.proofs.moves.ChooseLaws as laws
 use Rattle.engine.proofs.turn_of.Statement.{statement}
 use Rattle.engine.proofs.turn_of.Tie as tie
 
-sound-requires : tie.Need-sound-requires
-sound-requires c κs = search needs
+look-over-requires : tie.Need-look-over-requires
+look-over-requires c κs = search needs
 
 same-length : tie.Need-same-length
 same-length c = search needs
 
 returns : tie.Need-returns
-returns c = (tt, laws.choose-unsound _ _ _ _ _ (c .before .sound .ensures) (not-true _ (c .if1 .taken)))
+returns c = (tt, laws.choose-unsound _ _ _ _ _ (c .before .before .look-over .ensures) (not-true _ (c .if1 .taken)))
 
 same-length-2 : tie.Need-same-length-2
 same-length-2 c = search needs
@@ -20,7 +21,7 @@ same-length-2 c = search needs
 returns-2 : tie.Need-returns-2
 returns-2 c =
     let at-if1 = c .before .before .before in
-    (tt, laws.choose-far _ _ _ _ _ (at-if1 .before .sound .ensures) (not-false _ (at-if1 .if1 .left)) (c .if2 .taken))
+    (tt, laws.choose-far _ _ _ _ _ (at-if1 .before .before .look-over .ensures) (not-false _ (at-if1 .if1 .left)) (c .if2 .taken))
 
 is-over-requires : tie.Need-is-over-requires
 is-over-requires c κs = search needs
@@ -32,15 +33,17 @@ returns-3 : tie.Need-returns-3
 returns-3 c =
     let after-over = c .before in
     let at-if2 = after-over .before in
-    let at-if1 = at-if2 .before .before .before in
-    (tt, laws.choose-over _ _ _ _ _ (at-if1 .before .sound .ensures) (not-false _ (at-if1 .if1 .left)) (at-if2 .if2 .left) (after-over .is-over .ensures) (c .if3 .taken))
+    let at-if1 = at-if2 .before .before .before in (
+      tt,
+      laws.choose-over _ _ _ _ _ (at-if1 .before .before .look-over .ensures) (not-false _ (at-if1 .if1 .left)) (at-if2 .if2 .left)
+          (after-over .is-over .ensures) (c .if3 .taken),
+    )
 
 move-line-requires : tie.Need-move-line-requires
 move-line-requires c κs =
-    let at-if2 = c .before .before .before in
+    let at-if2 = c .before .before .before .before in
     let at-if1 = at-if2 .before .before .before in
-    let start = at-if1 .before .before .before .before in
-    laws.ready-here _ _ _ _ (start .args .mem .now) (at-if1 .before .sound .ensures) (not-false _ (at-if1 .if1 .left)) (at-if2 .if2 .left)
+    laws.ready-seen _ _ _ _ _ (at-if1 .before .before .look-over .ensures) (not-false _ (at-if1 .if1 .left)) (at-if2 .if2 .left)
 
 same-length-4 : tie.Need-same-length-4
 same-length-4 c = search needs
@@ -48,20 +51,22 @@ same-length-4 c = search needs
 returns-4 : tie.Need-returns-4
 returns-4 c =
     let after-move = c .before .before in
-    let at-if3 = after-move .before .before in
+    let at-if3 = after-move .before .before .before in
     let after-over = at-if3 .before in
     let at-if2 = after-over .before in
-    let at-if1 = at-if2 .before .before .before in (
+    let at-if1 = at-if2 .before .before .before in
+    let seen-is = at-if1 .before .before .look-over .ensures in
+    let ok = not-false _ (at-if1 .if1 .left) in (
       after-move .move-line .ensures .0,
-      laws.choose-move _ _ _ _ _ (at-if1 .before .sound .ensures) (not-false _ (at-if1 .if1 .left)) (at-if2 .if2 .left) (after-over .is-over .ensures)
-          (at-if3 .if3 .left) (after-move .move-line .ensures .1),
+      laws.choose-move _ _ _ _ _ seen-is ok (at-if2 .if2 .left) (after-over .is-over .ensures) (at-if3 .if3 .left)
+          (after-move .move-line .ensures .1 _ (laws.slot-here _ _ _ _ _ seen-is ok (at-if2 .if2 .left)) (tells-running _ _ _ _ _ seen-is ok)),
     )
 
 pub turn-of-spec : {M : Type 1} → statement M
 turn-of-spec =
     tie.close
     (tie.spec
-    sound-requires
+    look-over-requires
     same-length
     returns
     same-length-2

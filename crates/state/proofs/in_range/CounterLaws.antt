@@ -5,12 +5,15 @@ use mathlib.Core.List.{List}
 use Prim.Native.Nat.{ℕ, _+_, _*_, _/_, _%_, _<_, _≤_}
 use native.Mathlib.Omega.{arith}
 use borrow.Author.Tests.{lt-ltb, le-ltb}
+use lib.Dec.{leb}
 use lib.ListN.{getD, replicate, getD-replicate}
 use Rattle.rules.specs.Lists.{if, every, table}
+use Rattle.rules.specs.RunState.{counterAt}
 use Rattle.rules.specs.Ranges.{mostAt, counterSound}
 use Rattle.rules.proofs.lists.ListTables.{getD-table}
-use Rattle.state.specs.RangeParts.{everyFrom, cellSound, rowSound}
-use Rattle.state.proofs.in_range.Rows.{every-same, every-rows, every-parts}
+use Rattle.state.specs.RangeParts.{highestRow, rowWithin}
+use Rattle.state.proofs.in_range.Rows.{every-same, every-rows, every-parts, from-none}
+use Rattle.state.proofs.in_range.Highest.{within-each}
 
 module _ (pipes lines : ℕ) (serial : List Bool) where
   -- the most of a line of the plan, and of any other
@@ -30,18 +33,23 @@ module _ (pipes lines : ℕ) (serial : List Bool) where
 
   module _ (counters : List ℕ) where
     -- a line's counters, by the most that each may be
-    row : (m : List ℕ) (l : ℕ) → ((p : ℕ) → p < 16 → mostAt pipes lines serial l p ≡ getD m p 0) →
-        every 16 (λ p. counterSound pipes lines serial counters (16 * l + p)) ≡ rowSound counters m l
-    unfolding counterSound rowSound cellSound
-    row m l is = every-same 16 _ _ (λ p h.
-        let line : (16 * l + p) / 16 ≡ l = omega arith in
-        let pipe : (16 * l + p) % 16 ≡ p = omega arith in
-        rw (line, pipe, is p h))
+    abbrev lineWithin : List ℕ → ℕ → Bool
+    lineWithin m l = every 16 (λ p. leb (getD counters (counterAt l p) 0) (getD m p 0))
 
+    line : (m : List ℕ) (l : ℕ) → ((p : ℕ) → p < 16 → mostAt pipes lines serial l p ≡ getD m p 0) →
+        every 16 (λ p. counterSound pipes lines serial counters (16 * l + p)) ≡ lineWithin m l
+    unfolding counterSound
+    line m l is = every-same 16 _ _ (λ p h.
+        let line-is : (16 * l + p) / 16 ≡ l = omega arith in
+        let pipe-is : (16 * l + p) % 16 ≡ p = omega arith in
+        rw (line-is, pipe-is, is p h))
+
+    -- all counters, by the highest ones
     pub counters-are : lines ≤ 32 →
         every 512 (counterSound pipes lines serial counters) ≡
-        if (every lines (rowSound counters most)) (everyFrom lines 32 (rowSound counters none)) false
+        if (rowWithin (highestRow counters 0 lines) most) (rowWithin (highestRow counters lines 32) none) false
     counters-are h =
         every-rows (counterSound pipes lines serial counters) 16 32 ∙
-        every-parts _ 32 lines (rowSound counters most) (rowSound counters none) h
-        (λ l k. row most l (λ p. most-used l p k)) (λ l k. row none l (λ p. most-unused l p k))
+        every-parts _ 32 lines (lineWithin most) (lineWithin none) h
+        (λ l k. line most l (λ p. most-used l p k)) (λ l k. line none l (λ p. most-unused l p k)) ∙
+        rw (within-each counters 0 lines most, from-none (lineWithin most) lines, within-each counters lines 32 none)

@@ -7,8 +7,8 @@ use native.Mathlib.Numerals.{add-one}
 use native.Mathlib.Nat.{mul-zero, mul-suc}
 use Rattle.rules.specs.Lists.{if, every}
 use Rattle.state.specs.RangeParts.{everyFrom}
-use Rattle.rules.proofs.lists.EveryBelow.{every-none, every-more, every-fails}
-use Rattle.rules.proofs.lists.Tests.{if-eta}
+use Rattle.rules.proofs.lists.EveryBelow.{every-none}
+use Rattle.rules.proofs.lists.Tests.{if-eta, if-same}
 
 -- of two tests that hold, each
 pub first-holds : (b x : Bool) → if b x false ≡ true → b ≡ true
@@ -20,7 +20,7 @@ rest-hold true x e = e
 rest-hold false x e = let z : _≡_ {A = ℕ} 0 1 = cc in absurd (omega arith)
 
 -- of two tests, either may come first
-swap : (a b : Bool) → if a b false ≡ if b a false
+pub swap : (a b : Bool) → if a b false ≡ if b a false
 swap true b = sym (if-eta b)
 swap false true = refl
 swap false false = refl
@@ -35,6 +35,29 @@ pub every-same : (n : ℕ) (f g : ℕ → Bool) → ((i : ℕ) → i < n → f i
 unfolding every
 every-same zero f g e = refl
 every-same (suc n) f g e = rw (e n (omega arith), every-same n f g (λ i h. e i (omega arith)))
+
+-- two tests of each number, and a test of each pair, may be asked in either order
+swap-inner : (a b c d : Bool) → if (if a b false) (if c d false) false ≡ if (if a c false) (if b d false) false
+swap-inner true true c d = refl
+swap-inner true false c d = sym (if-same c false)
+swap-inner false b c d = refl
+
+pub every-both : (n : ℕ) (f g : ℕ → Bool) → every n (λ i. if (f i) (g i) false) ≡ if (every n f) (every n g) false
+unfolding every
+every-both zero f g = refl
+every-both (suc n) f g =
+    ap (λ x. if (if (f n) (g n) false) x false) (every-both n f g) ∙ swap-inner (f n) (g n) (every n f) (every n g)
+
+every-holds : (n : ℕ) → every n (λ i. true) ≡ true
+unfolding every
+every-holds zero = refl
+every-holds (suc n) = every-holds n
+
+pub exchange : (m n : ℕ) (g : ℕ → ℕ → Bool) → every m (λ p. every n (λ i. g i p)) ≡ every n (λ i. every m (λ p. g i p))
+unfolding every
+exchange m zero g = every-holds m
+exchange m (suc n) g =
+    every-both m (λ p. g n p) (λ p. every n (λ i. g i p)) ∙ ap (λ x. if (every m (λ p. g n p)) x false) (exchange m n g)
 
 module _ (f : ℕ → Bool) where
   -- the answer so far, after one number more
@@ -81,25 +104,23 @@ module _ (f : ℕ → Bool) where
       ap (λ m. every m f) parts ∙ split a (n - a) ∙
       rw (every-same a f g first, every-same (n - a) (λ i. f (a + i)) (λ i. h (a + i)) (λ i k. later (a + i) (omega arith)))
 
-  -- from a number on
-  module _ (from : ℕ) where
-    abbrev later : ℕ → Bool
-    later i = f (from + i)
+-- from a number on
+module _ (f : ℕ → Bool) (from : ℕ) where
+  abbrev later : ℕ → Bool
+  later i = f (from + i)
 
-    later-is : (i : ℕ) → from ≤ i → {v : Bool} → f i ≡ v → later (i - from) ≡ v
-    later-is i h e = let i-is : from + (i - from) ≡ i = omega arith in ap f i-is ∙ e
+  later-is : (i : ℕ) → from ≤ i → {v : Bool} → f i ≡ v → later (i - from) ≡ v
+  later-is i h e = let i-is : from + (i - from) ≡ i = omega arith in ap f i-is ∙ e
 
-    pub from-start : everyFrom from from f ≡ true
-    unfolding everyFrom
-    from-start = let no : from - from ≡ 0 = omega arith in rw no (every-none later)
+  pub from-empty : (i : ℕ) → i ≤ from → true ≡ everyFrom from i f
+  unfolding everyFrom
+  from-empty i h = let no : i - from ≡ 0 = omega arith in rw no (sym (every-none later))
 
-    pub from-more : (i : ℕ) → from ≤ i → everyFrom from i f ≡ true → f i ≡ true → everyFrom from (i + 1) f ≡ true
-    unfolding everyFrom
-    from-more i h t e = let one : i + 1 - from ≡ i - from + 1 = omega arith in rw one (every-more later (i - from) t (later-is i h e))
+  -- the answer so far, after one number more
+  pub from-kept : (i : ℕ) {ok : Bool} → from ≤ i → ok ≡ everyFrom from i f → f i ≡ true → ok ≡ everyFrom from (i + 1) f
+  unfolding everyFrom
+  from-kept i h k e = let one : i + 1 - from ≡ i - from + 1 = omega arith in rw one (every-kept later (i - from) k (later-is i h e))
 
-    pub from-done : (n i : ℕ) → i ≤ n → n ≤ i → everyFrom from i f ≡ true → true ≡ everyFrom from n f
-    from-done n i a b t = let i-is : i ≡ n = omega arith in sym (subst (λ j. everyFrom from j f ≡ true) i-is t)
-
-    pub from-fails : (n i : ℕ) → from ≤ i → i < n → f i ≡ false → false ≡ everyFrom from n f
-    unfolding everyFrom
-    from-fails n i a b e = every-fails later (n - from) (i - from) (omega arith) (later-is i a e)
+  pub from-lost : (i : ℕ) → from ≤ i → f i ≡ false → false ≡ everyFrom from (i + 1) f
+  unfolding everyFrom
+  from-lost i h e = let one : i + 1 - from ≡ i - from + 1 = omega arith in rw one (every-lost later (i - from) (later-is i h e))

@@ -6,14 +6,14 @@ use mathlib.Core.Logic.{by-cases}
 use Prim.Native.Nat.{ℕ, zero, suc, _+_, _*_, _<_, _≤_}
 use native.Mathlib.Omega.{arith}
 use native.Mathlib.Decide.{ℕ-discrete}
-use borrow.Author.Tests.{ltb-true, eqb-true, lt-ltb}
+use borrow.Author.Tests.{ltb-true, lt-ltb}
 use lib.Dec.{ltb, eqb}
 use lib.ListN.{getD}
 use Rattle.rules.specs.Lists.{if, every}
 use Rattle.rules.specs.declared.Slot.{Slot}
 use Rattle.rules.specs.RunState.{idle}
 use Rattle.rules.specs.Choices.{movable, ended}
-use Rattle.rules.specs.Ranges.{isIdle, isLoaded, slotSound, serialSound, numbersSound, sound}
+use Rattle.rules.specs.Ranges.{isIdle, slotInRange, slotSound, serialSound, numbersSound, sound}
 use Rattle.tables.specs.Calls.{memorySource}
 use Rattle.state.specs.declared.State.{State}
 use Rattle.state.specs.declared.Figures.{Figures}
@@ -23,6 +23,7 @@ use Rattle.state.specs.Ending.{isStill, overOf, endedOf}
 use Rattle.state.specs.Machines.{whole, Ready}
 use Rattle.rules.proofs.lists.Tests.{by-test}
 use Rattle.state.proofs.in_range.Rows.{first-holds, rest-hold}
+use Rattle.state.proofs.in_range.SlotLaws.{idle-pipe}
 use Rattle.state.proofs.in_range.RangeLaws as figures
 use Rattle.state.proofs.in_range.RangeLaws.{numbers-are}
 
@@ -51,15 +52,10 @@ every-at (suc n) i f h e = by-cases (ℕ-discrete i n)
     (λ less. every-at n i f (omega arith) (rest-hold (f n) _ e))
 
 module _ (slot : Slot) where
-  -- an idle slot is at pipe 0, and a loaded one below P
-  idle-pipe : isIdle slot ≡ true → slot .pipe .0 ≡ 0
-  unfolding isIdle
-  idle-pipe e = eqb-true (slot .pipe .0) 0 (first-holds (eqb (slot .pipe .0) 0) _ (rest-hold (not (slot .running)) _ e))
-
-  loaded-pipe : (pipes tokens : ℕ) → isLoaded pipes tokens slot ≡ true → slot .pipe .0 < pipes
-  unfolding isLoaded
-  loaded-pipe pipes tokens e =
-      ltb-true (slot .pipe .0) pipes (first-holds (ltb (slot .pipe .0) pipes) _ (rest-hold (if (slot .running) true (ltb 0 (slot .pipe .0))) _ e))
+  -- a slot in range is at a pipe below P
+  in-range-pipe : (pipes tokens : ℕ) → slotInRange pipes tokens slot ≡ true → slot .pipe .0 < pipes
+  unfolding slotInRange
+  in-range-pipe pipes tokens e = ltb-true (slot .pipe .0) pipes (first-holds (ltb (slot .pipe .0) pipes) _ e)
 
 module _ (s : State) (mem : List ℕ) (ok : sound memorySource (machineOf s mem) ≡ true) where
   numbers-ok : numbersSound (machineOf s mem) ≡ true
@@ -92,8 +88,8 @@ module _ (s : State) (mem : List ℕ) (ok : sound memorySource (machineOf s mem)
       let e : slotSound (s .pipes) (s .lines) (s .tables .tokens) (s .slots) l ≡ true = every-at 32 l _ h slots-ok in
       by-test (isIdle slot)
       (λ i. let z : slot .pipe .0 ≡ 0 = idle-pipe slot i in omega (arith, pipes-some))
-      (λ i. loaded-pipe slot (s .pipes) (s .tables .tokens)
-      (first-holds (isLoaded (s .pipes) (s .tables .tokens) slot) _ (rest-hold (ltb l (s .lines)) _ (rw i at e))))
+      (λ i. in-range-pipe slot (s .pipes) (s .tables .tokens)
+      (first-holds (slotInRange (s .pipes) (s .tables .tokens) slot) _ (rest-hold (ltb l (s .lines)) _ (rw i at e))))
 
   -- no line below n can move
   still-lines : (n : ℕ) → n ≤ s .lines → every n (isStill (s .counters) (s .slots)) ≡ not (movable (machineOf s mem) n)

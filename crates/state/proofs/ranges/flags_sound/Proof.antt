@@ -3,7 +3,7 @@ use mathlib.Core.Path.{_≡_, sym, _∙_}
 use Prim.Native.Nat.{_-_, _≤_}
 use native.Mathlib.Omega.{arith}
 use borrow.Author.Needs.{needs}
-use Rattle.rules.specs.Ranges.{serialSound}
+use Rattle.state.specs.RangeParts.{flagSound}
 use Rattle.rules.specs.Lists.{every}
 use Rattle.rules.proofs.lists.EveryBelow.{every-none}
 use Rattle.state.proofs.in_range.Rows.{every-kept, every-lost, every-all}
@@ -11,7 +11,7 @@ use Rattle.state.proofs.ranges.flags_sound.Statement.{statement}
 use Rattle.state.proofs.ranges.flags_sound.Tie as tie
 
 abbrev Inv-loop : tie.InvT-loop
-Inv-loop pipes serial ok₀ p₀ ok p = (p ≤ 16) × (ok ≡ every p (serialSound pipes serial))
+Inv-loop pipes serial ok₀ p₀ ok p = (p ≤ 16) × (ok ≡ every p (flagSound pipes serial))
 
 abbrev μ-loop : tie.MeasureT-loop
 μ-loop pipes serial ok₀ p₀ ok p = 16 - p
@@ -35,7 +35,7 @@ loop-less : tie.Need-loop-less Inv-loop μ-loop
 loop-less c = omega arith
 
 loop-again : tie.Need-loop-again Inv-loop μ-loop
-unfolding serialSound
+unfolding flagSound
 loop-again c = (omega arith, every-kept _ _ (c .before .before .before .loop .inv .1) (sym (c .before .flag-sound .ensures) ∙ c .if1 .taken))
 
 add-p-2 : tie.Need-add-p-2 Inv-loop μ-loop
@@ -45,7 +45,7 @@ loop-less-2 : tie.Need-loop-less-2 Inv-loop μ-loop
 loop-less-2 c = omega arith
 
 loop-again-2 : tie.Need-loop-again-2 Inv-loop μ-loop
-unfolding serialSound
+unfolding flagSound
 loop-again-2 c = (omega arith, every-lost _ _ (sym (c .before .flag-sound .ensures) ∙ c .if1 .left))
 
 returns : tie.Need-returns Inv-loop μ-loop
