@@ -25,18 +25,19 @@ ghost use Rattle.tables.specs.Calls.{memorySource};
 ghost use Rattle.state.specs.Machines.{machineOf};
 ghost use Rattle.state.specs.Ending.{endedOf};
 
-// The state of a run: P, L, W, which pipes are serial, the join counters (16 to a line), what each line does, how many
-// tokens have a place, whether the run is marked stopped, and the numbers of the token tables, N among them.
+// The state of a run: P, L, W, how many tokens have a place, whether the run is marked stopped, the numbers of the token tables,
+// N among them, which pipes are serial, the join counters (16 to a line), and what each line does. (The two large arrays come last:
+// a state is copied at each choice, and they are then copied by themselves.)
 pub struct State {
     pub pipes: u16,
     pub lines: u16,
     pub workers: u16,
-    pub serial: [bool; 16],
-    pub counters: [u8; 512],
-    pub slots: [Slot; 32],
     pub placed: u16,
     pub stopped: bool,
     pub tables: Tables,
+    pub serial: [bool; 16],
+    pub counters: [u8; 512],
+    pub slots: [Slot; 32],
 }
 
 // The state but for its counters and slots.
@@ -44,10 +45,10 @@ pub struct Figures {
     pub pipes: u16,
     pub lines: u16,
     pub workers: u16,
-    pub serial: [bool; 16],
     pub placed: u16,
     pub stopped: bool,
     pub tables: Tables,
+    pub serial: [bool; 16],
 }
 
 // Whether the run has ended; no where a line or a pipe lies outside the tables.

@@ -124,11 +124,21 @@ fn cases() -> Vec<Case> {
 /// One side's times for a choice, in nanoseconds: one of each round.
 struct Times(Vec<f64>);
 
+fn median(numbers: impl Iterator<Item = f64>) -> f64 {
+    let mut sorted: Vec<f64> = numbers.collect();
+    sorted.sort_by(f64::total_cmp);
+    sorted[sorted.len() / 2]
+}
+
 impl Times {
     fn median(&self) -> f64 {
-        let mut sorted = self.0.clone();
-        sorted.sort_by(f64::total_cmp);
-        sorted[sorted.len() / 2]
+        median(self.0.iter().copied())
+    }
+
+    /// The median of the rounds' ratios. The two times of a round lie close together, so a slow spell
+    /// of the machine mostly falls on both.
+    fn ratio_to(&self, other: &Times) -> f64 {
+        median(self.0.iter().zip(&other.0).map(|(mine, its)| mine / its))
     }
 
     fn lowest(&self) -> f64 {
@@ -171,7 +181,7 @@ struct Measured<'a> {
 
 impl Measured<'_> {
     fn ratio(&self) -> f64 {
-        self.engine.median() / self.plain.median()
+        self.engine.ratio_to(&self.plain)
     }
 }
 
@@ -196,15 +206,16 @@ fn print_times(measured: &[Measured]) {
          parallel by turns, pipe 0 serial) and 32 lines. Times are nanoseconds for one choice, the \
          opening included. The engine is lent the same memory for all runs, and only its opening \
          clears it; the plain stepper allocates its own for each run. {ROUNDS} rounds, in each the \
-         two sides one after the other. Ratio: of the medians. Noise: by how much the slowest \
-         round is above the quickest.\n"
+         two sides one after the other. Ratio: the median of the rounds' ratios. Noise: by how much the \
+         slowest round is above the quickest.\n"
     );
     println!(
         "| deferral | N | order | choices | engine, median | engine, lowest | plain, median \
          | plain, lowest | ratio | engine noise | plain noise |"
     );
     println!("|---|--:|---|--:|--:|--:|--:|--:|--:|--:|--:|");
-    for Measured { case, engine, plain } in measured {
+    for one in measured {
+        let Measured { case, engine, plain } = one;
         println!(
             "| {} | {} | {} | {} | {:.2} | {:.2} | {:.2} | {:.2} | {:.2} | {:.0} % | {:.0} % |",
             case.deferral.name(),
@@ -215,7 +226,7 @@ fn print_times(measured: &[Measured]) {
             engine.lowest(),
             plain.median(),
             plain.lowest(),
-            engine.median() / plain.median(),
+            one.ratio(),
             engine.noise(),
             plain.noise(),
         );
@@ -237,17 +248,26 @@ fn print_verdicts(measured: &[Measured]) {
             measured.iter().find(wanted).expect("it is among the cases")
         };
         let ratios = [SMALL, MIDDLE, LARGE].map(|tokens| of(Deferral::None, tokens).ratio());
-        let [small, large] =
-            [SMALL, LARGE].map(|tokens| of(Deferral::None, tokens).engine.median());
-        let long = of(Deferral::Long, LARGE).engine.median();
+        let [small, large] = [SMALL, LARGE].map(|tokens| &of(Deferral::None, tokens).engine);
+        let long = &of(Deferral::Long, LARGE).engine;
         print(
             "engine / plain without deferral, highest over N",
             order,
             MOST_RATIO,
             ratios.into_iter().fold(0.0, f64::max),
         );
-        print("engine without deferral, N = 4096 / N = 256", order, MOST_GROWTH, large / small);
-        print("engine at N = 4096, long deferral / none", order, MOST_DEFERRED, long / large);
+        print(
+            "engine without deferral, N = 4096 / N = 256",
+            order,
+            MOST_GROWTH,
+            large.ratio_to(small),
+        );
+        print(
+            "engine at N = 4096, long deferral / none",
+            order,
+            MOST_DEFERRED,
+            long.ratio_to(large),
+        );
     }
 }
 
