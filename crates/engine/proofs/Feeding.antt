@@ -8,7 +8,7 @@ use lib.ListN.{length, getD, drop}
 use lib.Seq.{drop-cons, drop-length}
 use Rattle.rules.specs.Sources.{Source}
 use Rattle.rules.specs.RunState.{Machine}
-use Rattle.rules.specs.Choices.{Answer, choose, answers, follow}
+use Rattle.rules.specs.Choices.{choose, answers, follow}
 
 module _ {X : Type 0} (S : Source X) (m : Machine X) (ls : List ℕ) (i : ℕ) where
   -- a choice leads on to what is left of the list

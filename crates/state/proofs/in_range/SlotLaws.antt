@@ -16,7 +16,7 @@ use Rattle.rules.specs.RunState.{idle}
 use Rattle.rules.specs.Choices.{runningBelow}
 use Rattle.rules.specs.Ranges.{isIdle, slotInRange, slotSound}
 use Rattle.rules.proofs.lists.Tests.{by-test, sameAs, same, other, if-eta, if-same}
-use Rattle.state.specs.RangeParts.{everyFrom, larger, highest, heldOf, tallyOf, fitsOf}
+use Rattle.state.specs.RangeParts.{everyFrom, highest, heldOf, tallyOf, fitsOf}
 use Rattle.state.proofs.in_range.Rows.{first-holds, rest-hold, every-same, every-both, every-parts, from-none}
 use Rattle.state.proofs.in_range.Highest.{highest-test, larger-ltb}
 

@@ -1,11 +1,10 @@
 -- What a look over a state tells its caller.
 use mathlib.Core.Path.{_≡_, ap, sym, _∙_}
-use mathlib.Core.Bool.{Bool, true, false}
+use mathlib.Core.Bool.{Bool, true}
 use mathlib.Core.List.{List}
 use Prim.Native.Nat.{ℕ, _<_}
 use borrow.Author.Tests.{lt-ltb}
 use lib.ListN.{getD}
-use Rattle.rules.specs.Lists.{must}
 use Rattle.rules.specs.declared.Slot.{Slot}
 use Rattle.rules.specs.RunState.{idle}
 use Rattle.rules.specs.Choices.{runningBelow}

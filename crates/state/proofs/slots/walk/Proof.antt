@@ -1,6 +1,6 @@
 -- `state::slots::walk` meets its contract. The invariants: the highest numbers and the lines that run are those of the slots below
 -- l; then, all slots from `used` up to l are idle or `rest` says that they are not.
-use mathlib.Core.Path.{_≡_, refl, sym, ap, _∙_}
+use mathlib.Core.Path.{_≡_, refl, sym, _∙_}
 use Prim.Native.Nat.{_-_, _≤_}
 use native.Mathlib.Omega.{arith}
 use borrow.Author.Needs.{needs}
