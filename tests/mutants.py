@@ -50,7 +50,6 @@ KNOWN = {
         "the same: at the place POSITIONS the next test but one, POSITIONS < place + 1 + count, holds whatever the count is",
     ),
     "printing/text.rt:put_number:constant-1": ("let mut digits = [1u8; 20];", "the same: only the digits that `io::decimal` has written are put"),
-    "printing/sink.rt:written:constant-5": ("sum: 0,", "the sum of a sink that writes is never looked at"),
 }
 
 

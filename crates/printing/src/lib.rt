@@ -1,5 +1,5 @@
-// The program's lines, and where they go. No contract speaks of them: what is proved is that every call is safe and ends.
-// A crate apart from `session`, whose must-fail edits would each check it again.
+// The program's lines, and where they go: which bytes wait in the buffer then, or what digest they have. What standard output is
+// sent is no part of a contract. A crate apart from `session`, whose must-fail edits would each check it again.
 mod sink;
 mod text;
 

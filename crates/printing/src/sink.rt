@@ -1,5 +1,8 @@
 // Where output goes: through a lent buffer to standard output, or into a digest of it.
 use libc::STDOUT_FILENO;
+ghost use mathlib.Core.Path.{_≡_};
+ghost use lib.ListN.{length};
+ghost use Rattle.printing.specs.Sinks.{written as writtenOf, digested as digestedOf, mixed, digestOf, flushedOf, fitsOf, storedOf, putOf};
 
 // The digest's modulus, the largest prime below 2^32, and its base.
 const MODULUS: u64 = 4294967291;
@@ -17,13 +20,17 @@ pub struct Sink {
 }
 
 // One more byte in the digest.
-fn add(sum: u64, byte: u8) -> u64 {
+fn add(sum: u64, byte: u8) -> u64
+    ensures { λ r. ⌜ r ≡ mixed sum byte ⌝ }
+{
     ((sum % MODULUS) * BASE + byte as u64) % MODULUS
 }
 
 impl Sink {
     // Output to standard output.
-    pub fn written() -> Self {
+    pub fn written() -> Self
+        ensures { λ r. ⌜ r ≡ writtenOf ⌝ }
+    {
         Self {
             at: 0,
             digests: false,
@@ -33,17 +40,18 @@ impl Sink {
     }
 
     // Output to a digest.
-    pub fn digested() -> Self {
-        Self {
-            at: 0,
-            digests: true,
-            lines: 0,
-            sum: 1,
-        }
+    pub fn digested() -> Self
+        ensures { λ r. ⌜ r ≡ digestedOf ⌝ }
+    {
+        let mut sink = Self::written();
+        sink.digests = true;
+        sink
     }
 
     // The digest with these bytes.
-    fn digest(self, bytes: &[u8]) -> Self {
+    fn digest(self, bytes: &[u8]) -> Self
+        ensures { λ r. ⌜ r ≡ digestOf (self .lines) (self .sum) (now (bytes .entry)) ⌝ }
+    {
         let mut sum = self.sum;
         let mut lines = self.lines;
         let mut i: usize = 0;
@@ -66,7 +74,9 @@ impl Sink {
     }
 
     // Hands on what waits in the buffer.
-    pub fn flush(self, out: &[u8]) -> Self {
+    pub fn flush(self, out: &[u8]) -> Self
+        ensures { λ r. ⌜ r ≡ flushedOf self (now (out .entry)) ⌝ }
+    {
         let at = self.at;
         if out.len() < at {
             return self;
@@ -75,16 +85,13 @@ impl Sink {
             return self.digest(&out[..at]);
         }
         io::write_all(STDOUT_FILENO, &out[..at]);
-        Self {
-            at: 0,
-            digests: false,
-            lines: 0,
-            sum: 1,
-        }
+        Self::written()
     }
 
     // Puts bytes into the buffer, which is handed on first where they would not fit.
-    pub fn put(self, out: &mut [u8], text: &[u8]) -> Self {
+    pub fn put(self, out: &mut [u8], text: &[u8]) -> Self
+        ensures { λ r. ⌜ (r, now (out .exit)) ≡ putOf (self, now (out .entry)) (now (text .entry)) ⌝ }
+    {
         if self.fits(out.len(), text.len()) {
             return self.store(out, text);
         }
@@ -93,7 +100,9 @@ impl Sink {
     }
 
     // Whether so many bytes fit a buffer of this size.
-    fn fits(self, size: usize, count: usize) -> bool {
+    fn fits(self, size: usize, count: usize) -> bool
+        ensures { λ r. ⌜ r ≡ fitsOf self size count ⌝ }
+    {
         if size < self.at {
             return false;
         }
@@ -101,7 +110,9 @@ impl Sink {
     }
 
     // Copies bytes to where they fit; a text longer than the buffer is left out.
-    fn store(self, out: &mut [u8], text: &[u8]) -> Self {
+    fn store(self, out: &mut [u8], text: &[u8]) -> Self
+        ensures { λ r. ⌜ (r, now (out .exit)) ≡ storedOf (self, now (out .entry)) (now (text .entry)) ⌝ }
+    {
         let from = self.at;
         let size = out.len();
         let count = text.len();

@@ -1,9 +1,10 @@
--- `choose` makes the choice of the rules: what the engine's choice ensures, but for the answer.
+-- `choose` makes the choice of the rules, and prints its answer.
 use mathlib.Core.Path.{ap}
 use Rattle.rules.specs.Choices.{Chosen}
 use Rattle.tables.specs.State as tables
 use Rattle.engine.specs.Machines.{chosenOf}
 use borrow.Author.Needs.{needs}
+use Rattle.session.proofs.PrintedLaws.{prints-answer}
 use Rattle.session.proofs.choose.Statement.{statement}
 use Rattle.session.proofs.choose.Tie as tie
 
@@ -21,7 +22,12 @@ same-length-2 c = search needs
 
 returns : tie.Need-returns
 unfolding chosenOf
-returns c = ap (λ (x : Chosen tables.State). x .machine) (c .before .before .before .before .before .before .before .choose .ensures)
+returns c =
+    let at-put = c .before .before in
+    let chosen = at-put .before .before .before .before .before .choose .ensures in (
+      ap (λ (x : Chosen tables.State). x .machine) chosen,
+      prints-answer _ (at-put .put-answer .ensures) (ap (λ (x : Chosen tables.State). x .answer) chosen),
+    )
 
 pub choose-spec : {M : Type 1} → statement M
 choose-spec =

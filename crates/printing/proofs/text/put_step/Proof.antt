@@ -1,6 +1,7 @@
--- `put_step` is safe: the buffer keeps its length.
+-- `put_step` puts the four numbers of a step, and ends the line.
 use native.Mathlib.Omega.{arith}
 use borrow.Author.Needs.{needs}
+use Rattle.printing.proofs.lines.Putting as laws
 use Rattle.printing.proofs.text.put_step.Statement.{statement}
 use Rattle.printing.proofs.text.put_step.Tie as tie
 
@@ -51,7 +52,14 @@ same-length c =
     )
 
 returns : tie.Need-returns
-returns c = search needs
+returns c =
+    let at-put = c .before .before in
+    let at-place = at-put .before .before .before .before .before in
+    let at-token = at-place .before .before .before .before .before in
+    let at-pipe = at-token .before .before .before .before .before in
+    let at-line = at-pipe .before .before .before .before .before in
+    laws.put-step _ _ _ _ _ (at-line .put-number .ensures) (at-pipe .put-number2 .ensures) (at-token .put-number3 .ensures)
+    (at-place .put-number4 .ensures) (at-put .put .ensures)
 
 pub put-step-spec : {M : Type 1} → statement M
 put-step-spec =

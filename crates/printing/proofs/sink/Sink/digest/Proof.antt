@@ -1,18 +1,23 @@
--- `Sink::digest` is safe and ends.
+-- `Sink::digest` meets its contract. The invariant: the bytes from i on, with the digest so far, give the digest of all.
+use mathlib.Core.Path.{_≡_, refl, sym, _∙_}
 use Prim.Native.Nat.{_≤_, _-_}
-use lib.ListN.{length}
+use native.Mathlib.Omega.{arith}
+use lib.ListN.{length, drop}
+use Rattle.printing.specs.Sinks.{digestOf}
+use Rattle.printing.proofs.buffer.Digesting as laws
 use borrow.Author.Needs.{needs}
 use Rattle.printing.proofs.sink.Sink.digest.Statement.{statement}
 use Rattle.printing.proofs.sink.Sink.digest.Tie as tie
 
 abbrev Inv-loop : tie.InvT-loop
-Inv-loop bytes sum₀ lines₀ i₀ sum lines i = i ≤ length bytes
+Inv-loop bytes sum₀ lines₀ i₀ sum lines i =
+    (i ≤ length bytes) × (digestOf lines₀ sum₀ bytes ≡ digestOf lines sum (drop i bytes))
 
 abbrev μ-loop : tie.MeasureT-loop
 μ-loop bytes sum₀ lines₀ i₀ sum lines i = length bytes - i
 
 loop-holds : tie.Need-loop-holds Inv-loop μ-loop
-loop-holds c = search needs
+loop-holds c = (omega arith, refl)
 
 shared-slice-read-b : tie.Need-shared-slice-read-b Inv-loop μ-loop
 shared-slice-read-b c = search needs
@@ -30,7 +35,14 @@ loop-less : tie.Need-loop-less Inv-loop μ-loop
 loop-less c = search needs
 
 loop-again : tie.Need-loop-again Inv-loop μ-loop
-loop-again c = search needs
+loop-again c =
+    let at-add = c .before .before in
+    let at-loop = at-add .before .before .before in
+    let bytes = at-loop .before .before .args .bytes .now in (
+      omega arith,
+      at-loop .loop .inv .1 ∙ laws.digest-turn bytes (at-loop .loop .i) (at-loop .loop .lines) (at-loop .loop .sum) (omega arith)
+          (laws.counted-end _ _ (omega arith) (c .wrapping-add-u64 .ensures)) (at-add .add .ensures),
+    )
 
 add-i-2 : tie.Need-add-i-2 Inv-loop μ-loop
 add-i-2 c = search needs
@@ -39,10 +51,19 @@ loop-less-2 : tie.Need-loop-less-2 Inv-loop μ-loop
 loop-less-2 c = search needs
 
 loop-again-2 : tie.Need-loop-again-2 Inv-loop μ-loop
-loop-again-2 c = search needs
+loop-again-2 c =
+    let at-add = c .before in
+    let at-loop = at-add .before .before .before in
+    let bytes = at-loop .before .before .args .bytes .now in (
+      omega arith,
+      at-loop .loop .inv .1 ∙ laws.digest-turn bytes (at-loop .loop .i) (at-loop .loop .lines) (at-loop .loop .sum) (omega arith)
+          (laws.counted-other _ _ (λ e. omega arith)) (at-add .add .ensures),
+    )
 
 returns : tie.Need-returns Inv-loop μ-loop
-returns c = search needs
+returns c =
+    let at-loop = c .before in
+    sym (at-loop .loop .inv .1 ∙ laws.digest-end _ (at-loop .loop .i) (at-loop .loop .lines) (at-loop .loop .sum) (omega arith) (omega arith))
 
 pub digest-spec : {M : Type 1} → statement M
 digest-spec =

@@ -1,0 +1,38 @@
+-- The program's lines, in the texts that they are put together of: "Numbers are printed in decimal, single spaces, a newline ending
+-- every line." (01)
+use mathlib.Core.List.{List, [], _∷_, _++_}
+use Prim.Native.Nat.{ℕ, zero, suc, _+_, _/_, _%_}
+use lib.Dec.{ltb}
+use Rattle.rules.specs.Lists.{if}
+use Rattle.rules.specs.Choices.{Answer, Started, Finished, Stopped, Refused}
+
+-- a number's decimal digits, at most so many, the first one first
+unfoldable pub decimalUpTo : ℕ → ℕ → List ℕ
+decimalUpTo zero n = []
+decimalUpTo (suc k) n = if (ltb n 10) ((48 + n) ∷ []) (decimalUpTo k (n / 10) ++ ((48 + n % 10) ∷ []))
+
+-- a number below 2^64 has no more than 20
+unfoldable pub decimal : ℕ → List ℕ
+decimal n = decimalUpTo 20 n
+
+-- a space and a number; a newline
+unfoldable pub numberTexts : ℕ → List (List ℕ)
+numberTexts n = (32 ∷ []) ∷ decimal n ∷ []
+
+abbrev pub newline : List (List ℕ)
+newline = (10 ∷ []) ∷ []
+
+-- `R n`
+unfoldable pub refusalTexts : ℕ → List (List ℕ)
+refusalTexts n = (82 ∷ []) ∷ (numberTexts n ++ newline)
+
+-- ` l p t k`: line, pipe, token and place
+unfoldable pub stepTexts : ℕ → ℕ → ℕ → ℕ → List (List ℕ)
+stepTexts line pipe token place = numberTexts line ++ (numberTexts pipe ++ (numberTexts token ++ (numberTexts place ++ newline)))
+
+-- "each choice prints a line: `S l p t k` started, `F l p t k` finished, `X l` stopped, or `R n`"
+unfoldable pub answerTexts : Answer → List (List ℕ)
+answerTexts (Started line pipe token place) = (83 ∷ []) ∷ stepTexts line pipe token place
+answerTexts (Finished line pipe token place) = (70 ∷ []) ∷ stepTexts line pipe token place
+answerTexts (Stopped line) = (88 ∷ []) ∷ (numberTexts line ++ newline)
+answerTexts (Refused number) = refusalTexts number

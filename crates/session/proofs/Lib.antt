@@ -1,0 +1,2 @@
+-- The proofs of a session: what is printed.
+pub mod PrintedLaws
