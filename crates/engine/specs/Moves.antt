@@ -8,8 +8,9 @@ use lib.ListN.{getD, set}
 use Rattle.rules.specs.Lists.{if, mustNot}
 use Rattle.rules.specs.declared.Line.{Line}
 use Rattle.rules.specs.declared.Slot.{Slot}
+use Rattle.rules.specs.declared.Slots.{Slots}
 use Rattle.rules.specs.declared.answer.Answer.{Answer}
-use Rattle.rules.specs.RunState.{Machine, idle, waits, counterAt, slotOf, full}
+use Rattle.rules.specs.RunState.{Machine, waits, slotAt, putSlot, counterAt, slotOf, full}
 use Rattle.rules.specs.Choices.{Chosen, Finished, next, moved, withPlace, startFirst}
 use Rattle.rules.specs.Sources.{Taken, Spoiled, Nothing, Took}
 use Rattle.tables.specs.declared.Tables.{Tables}
@@ -63,7 +64,7 @@ finishedOf m l c x =
     let s : Slot = slotOf m l in
     record {
       answer = Finished l (s .pipe .0) (s .token .0) (s .place .0);
-      machine = withPlace m c (set (m .slots) l (moved (m .pipes) s)) (m .placed) (m .stopped) x;
+      machine = withPlace m c (putSlot (m .slots) l (moved (m .pipes) s)) (m .placed) (m .stopped) x;
     }
 
 -- a finish, worked out
@@ -120,6 +121,6 @@ stoppedTurn f line slot t = Turn.Made (record {
 -- a turn is the start at pipe 0 with what the tables give, in every state with these figures where the line has this slot
 abbrev pub StartsFirst : Figures → List ℕ → ℕ → Slot → Turn → List ℕ → List ℕ → Type 0
 StartsFirst f counters l slot turn m m′ =
-    (slots : List Slot) → getD slots l idle ≡ slot →
+    (slots : Slots) → slotAt slots l ≡ slot →
     chosenOf (turned (whole f counters slots) l turn) m′ ≡
     startFirst memorySource (machineOf (whole f counters slots) m) l (safeTake (f .tables, m))

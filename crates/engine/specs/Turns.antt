@@ -2,15 +2,16 @@
 use mathlib.Core.Path.{_≡_}
 use mathlib.Core.List.{List}
 use Prim.Native.Nat.{ℕ, _<_}
-use lib.ListN.{getD, set}
+use lib.ListN.{set}
 use Rattle.rules.specs.declared.Slot.{Slot}
-use Rattle.rules.specs.RunState.{Machine, idle}
+use Rattle.rules.specs.declared.Slots.{Slots}
+use Rattle.rules.specs.RunState.{Machine, slotAt, putSlot}
 use Rattle.rules.specs.Choices as rules
 use Rattle.tables.specs.State as tables
 use Rattle.tables.specs.Calls.{memorySource}
 use Rattle.state.specs.declared.State.{State}
 use Rattle.state.specs.declared.Figures.{Figures}
-use Rattle.state.specs.Machines.{machineOf, whole}
+use Rattle.state.specs.Machines.{slotsOf, machineOf, whole}
 use Rattle.engine.specs.declared.Chosen.{Chosen}
 use Rattle.engine.specs.declared.turn.Change.{Change}
 use Rattle.engine.specs.declared.turn.Turn.{Turn}
@@ -32,7 +33,10 @@ turned s l (Made c) = record {
     workers = s .workers;
     serial = s .serial;
     counters = recounted (s .counters) c;
-    slots = set (s .slots) l (c .slot);
+    at = putSlot (slotsOf s) l (c .slot) .at;
+    running = putSlot (slotsOf s) l (c .slot) .running;
+    token = putSlot (slotsOf s) l (c .slot) .token;
+    place = putSlot (slotsOf s) l (c .slot) .place;
     placed = c .placed;
     stopped = c .stopped;
     tables = c .tables;
@@ -47,11 +51,11 @@ Fits l (Made c) = (c .first .at < 512) × (c .second .at < 512) × (l < 32)
 -- a turn is what a rule makes of the line, in every state with these figures and counters where the line has this slot
 abbrev pub Follows : (Machine tables.State → ℕ → rules.Chosen tables.State) → Figures → List ℕ → ℕ → Slot → Turn → List ℕ → List ℕ → Type 0
 Follows rule f counters l slot turn m m′ =
-    (slots : List Slot) → getD slots l idle ≡ slot →
+    (slots : Slots) → slotAt slots l ≡ slot →
     chosenOf (turned (whole f counters slots) l turn) m′ ≡ rule (machineOf (whole f counters slots) m) l
 
 -- it is what the rules make of the line in every such state where so many lines run
 abbrev pub MovesAs : Figures → List ℕ → Slot → ℕ → ℕ → Turn → List ℕ → List ℕ → Type 0
 MovesAs f counters slot running l turn m m′ =
-    (slots : List Slot) → getD slots l idle ≡ slot → running ≡ rules.runningBelow slots (f .lines) →
+    (slots : Slots) → slotAt slots l ≡ slot → running ≡ rules.runningBelow slots (f .lines) →
     chosenOf (turned (whole f counters slots) l turn) m′ ≡ rules.move memorySource (machineOf (whole f counters slots) m) l

@@ -10,6 +10,7 @@ use rules::Answer;
 use rules::Line;
 use rules::Refusal;
 use rules::Slot;
+use rules::Slots;
 use state::COUNTERS_OF_LINE;
 use state::Figures;
 pub use state::State;
@@ -55,7 +56,7 @@ fn move_line(
 }
 
 // A choice, worked out.
-fn turn_of(f: Figures, slots: [Slot; 32], counters: &[u8; 512], mem: &mut [u16], line: Line) -> Turn
+fn turn_of(f: Figures, slots: Slots, counters: &[u8; 512], mem: &mut [u16], line: Line) -> Turn
     ensures fits { λ r. ⌜ Fits (line .0) r ⌝ }
     ensures chooses { λ r. ⌜ chosenOf (turned (whole f (now (counters .entry)) slots) (line .0) r) (now (mem .exit)) ≡
         chosenBy memorySource (machineOf (whole f (now (counters .entry)) slots) (now (mem .entry))) (line .0) ⌝ }
@@ -79,7 +80,16 @@ pub fn choose(mut s: State, mem: &mut [u16], line: Line) -> Chosen
     ensures { λ r. ⌜ chosenOf r (now (mem .exit)) ≡ chosenBy memorySource (machineOf s (now (mem .entry))) (line .0) ⌝ }
 {
     let serial = s.serial;
-    let slots = s.slots;
+    let at = s.at;
+    let running = s.running;
+    let token = s.token;
+    let place = s.place;
+    let slots = Slots {
+        at,
+        running,
+        token,
+        place,
+    };
     let t = s.tables;
     let f = Figures {
         pipes: s.pipes,
@@ -106,7 +116,14 @@ pub fn choose(mut s: State, mem: &mut [u16], line: Line) -> Chosen
             let b = second.at;
             s.counters[a] = first.value;
             s.counters[b] = second.value;
-            s.slots[line.0 as usize] = slot;
+            let pipe = slot.pipe;
+            let token = slot.token;
+            let place = slot.place;
+            let l = line.0 as usize;
+            s.at[l] = pipe;
+            s.running[l] = slot.running;
+            s.token[l] = token;
+            s.place[l] = place;
             s.placed = change.placed;
             s.stopped = change.stopped;
             s.tables = after;

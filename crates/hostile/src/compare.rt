@@ -1,6 +1,5 @@
 // Whether two states, or two memories, are the same.
 use engine::State;
-use rules::Slot;
 use tables::Tables;
 
 fn same_flags(a: [bool; 16], b: [bool; 16]) -> bool {
@@ -23,20 +22,14 @@ fn same_counters(a: [u8; 512], b: [u8; 512]) -> bool {
     same
 }
 
-fn same_slot(a: Slot, b: Slot) -> bool {
-    (a.pipe.0 == b.pipe.0)
-        & (a.running == b.running)
-        & (a.token.0 == b.token.0)
-        & (a.place.0 == b.place.0)
-}
-
-fn same_slots(a: [Slot; 32], b: [Slot; 32]) -> bool {
+fn same_slots(a: State, b: State) -> bool {
     let mut same = true;
     let mut i: usize = 0;
     while i < 32 {
-        let x = a[i];
-        let y = b[i];
-        same = same & same_slot(x, y);
+        same = same & (a.at[i].0 == b.at[i].0);
+        same = same & (a.running[i] == b.running[i]);
+        same = same & (a.token[i].0 == b.token[i].0);
+        same = same & (a.place[i].0 == b.place[i].0);
         i += 1;
     }
     same
@@ -65,12 +58,9 @@ pub fn same_state(a: State, b: State) -> bool {
     let x = a.counters;
     let y = b.counters;
     let counters = same_counters(x, y);
-    let x = a.slots;
-    let y = b.slots;
-    let slots = same_slots(x, y);
     let x = a.tables;
     let y = b.tables;
-    same_numbers(a, b) & flags & counters & slots & same_tables(x, y)
+    same_numbers(a, b) & flags & counters & same_slots(a, b) & same_tables(x, y)
 }
 
 pub fn same_memory(a: [u16; 32768], b: [u16; 32768]) -> bool {

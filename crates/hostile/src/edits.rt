@@ -12,25 +12,21 @@ use engine::State;
 use rules::Line;
 use rules::Pipe;
 use rules::Place;
-use rules::Slot;
 use rules::Token;
 use tables::Tables;
 
 // A refused opening's state.
 pub fn zeros() -> State {
-    let idle = Slot {
-        pipe: Pipe(0),
-        running: false,
-        token: Token(0),
-        place: Place(0),
-    };
     State {
         pipes: 0,
         lines: 0,
         workers: 0,
         serial: [false; 16],
         counters: [0; 512],
-        slots: [idle; 32],
+        at: [Pipe(0); 32],
+        running: [false; 32],
+        token: [Token(0); 32],
+        place: [Place(0); 32],
         placed: 0,
         stopped: false,
         tables: Tables {
@@ -84,20 +80,16 @@ fn with_tables(s: State, letter: u8, n: u16) -> State {
     t
 }
 
-fn edited_slot(s: Slot, letter: u8, n: u16) -> Slot {
-    Slot {
-        pipe: Pipe(picked(letter, b'p', n, s.pipe.0)),
-        running: picked_flag(letter, b'r', n, s.running),
-        token: Token(picked(letter, b't', n, s.token.0)),
-        place: Place(picked(letter, b'k', n, s.place.0)),
-    }
-}
-
 fn with_slot(s: State, letter: u8, at: usize, n: u16) -> State {
     let mut t = s;
     if at < 32 {
-        let slot = s.slots[at];
-        t.slots[at] = edited_slot(slot, letter, n);
+        let pipe = Pipe(picked(letter, b'p', n, s.at[at].0));
+        let token = Token(picked(letter, b't', n, s.token[at].0));
+        let place = Place(picked(letter, b'k', n, s.place[at].0));
+        t.at[at] = pipe;
+        t.running[at] = picked_flag(letter, b'r', n, s.running[at]);
+        t.token[at] = token;
+        t.place[at] = place;
         return t;
     }
     t

@@ -5,7 +5,7 @@ use mathlib.Core.List.{List}
 use Prim.Native.Nat.{ℕ, _≤_}
 use lib.ListN.{length, getD, replicate}
 use Rattle.rules.specs.declared.refusal.Refusal.{Refusal}
-use Rattle.rules.specs.RunState.{Machine, idle}
+use Rattle.rules.specs.RunState.{Machine, allIdle}
 use Rattle.rules.specs.Choices.{openedCounter, tabled, opened}
 use Rattle.rules.specs.WholeRuns.{WorkersInRange}
 use Rattle.plan.specs.Plan.{Plan, Valid, encode}
@@ -28,7 +28,10 @@ stateOf a = record {
   workers = a .workers;
   serial = a .serial;
   counters = a .counters;
-  slots = a .slots;
+  at = a .slots .at;
+  running = a .slots .running;
+  token = a .slots .token;
+  place = a .slots .place;
   placed = a .placed;
   stopped = a .stopped;
   tables = a .source .0;
@@ -47,7 +50,10 @@ freshState pipes lines workers serial counters tokens = record {
   workers = workers;
   serial = serial;
   counters = counters;
-  slots = replicate 32 idle;
+  at = allIdle .at;
+  running = allIdle .running;
+  token = allIdle .token;
+  place = allIdle .place;
   placed = 0;
   stopped = false;
   tables = tables.openedTables tokens;

@@ -7,7 +7,10 @@ ghost use Rattle.rules.specs.Choices.{openedCounter};
 ghost use Rattle.rules.specs.PipeKinds.{kindOf};
 ghost use Rattle.opening.specs.Plans.{serialOf};
 ghost use Rattle.opening.specs.Opened.{openedCounters, freshState};
+use rules::Pipe;
 use rules::PipeKind;
+use rules::Place;
+use rules::Token;
 use state::COUNTERS;
 use state::COUNTERS_OF_LINE;
 use state::FLAGS;
@@ -70,12 +73,6 @@ pub(crate) fn fresh(
 ) -> State
     ensures { λ r. ⌜ r ≡ freshState pipes lines workers serial counters tokens ⌝ }
 {
-    let slot = rules::Slot {
-        pipe: rules::Pipe(0),
-        running: false,
-        token: rules::Token(0),
-        place: rules::Place(0),
-    };
     let tables = tables::Tables {
         tokens: tokens,
         count: 0,
@@ -89,7 +86,10 @@ pub(crate) fn fresh(
         workers: workers,
         serial: serial,
         counters: counters,
-        slots: [slot; SLOTS],
+        at: [Pipe(0); SLOTS],
+        running: [false; SLOTS],
+        token: [Token(0); SLOTS],
+        place: [Place(0); SLOTS],
         placed: 0,
         stopped: false,
         tables: tables,

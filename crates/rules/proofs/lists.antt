@@ -15,5 +15,7 @@ pub mod EveryLaws
 pub mod Places
 -- lists of a function's first values;
 pub mod ListTables
--- places go round the lines.
+-- places go round the lines;
 pub mod Rotation
+-- the rows of all slots.
+pub mod SlotRows

@@ -3,12 +3,13 @@ use mathlib.Core.Bool.{Bool, true, false, not}
 use mathlib.Core.List.{List, [], _∷_}
 use Prim.Native.Nat.{ℕ, zero, suc, _+_, _-_, _/_, _%_}
 use lib.Dec.{ltb, eqb}
-use lib.ListN.{getD, set, replicate}
+use lib.ListN.{getD, set}
 use Rattle.rules.specs.Lists.{if, must, mustNot, all, table}
 use Rattle.rules.specs.Sources.{Source, Taken, Spoiled, Nothing, Took, Released, Broken, Passed}
-use Rattle.rules.specs.RunState.{Pipeline, Machine, idle, runs, waits, counterAt, slotOf, counterOf, isSerial, full}
+use Rattle.rules.specs.RunState.{Pipeline, Machine, idle, runs, waits, slotAt, putSlot, allIdle, counterAt, slotOf, counterOf, isSerial, full}
 use Rattle.rules.specs.Ranges.{sound}
 use Rattle.rules.specs.declared.Slot.{Slot}
+use Rattle.rules.specs.declared.Slots.{Slots}
 
 -- "An accepted choice returns Started or Finished with line, pipe, token, place, or Stopped with line";
 -- any other returns the number of the first rule broken
@@ -28,7 +29,7 @@ abbrev pub refuse : {X : Type 0} → Machine X → ℕ → Chosen X
 refuse m n = record { answer = Refused n; machine = m }
 
 -- the same run but for what a choice may change
-abbrev pub withPlace : {X : Type 0} → Machine X → List ℕ → List Slot → ℕ → Bool → X → Machine X
+abbrev pub withPlace : {X : Type 0} → Machine X → List ℕ → Slots → ℕ → Bool → X → Machine X
 withPlace m counters slots placed stopped source =
     record {
       pipes = m .pipes;
@@ -62,9 +63,9 @@ abbrev pub filled : {X : Type 0} → Machine X → ℕ → ℕ → List ℕ
 filled m l p = set (m .counters) (counterAt l p) (full (isSerial m p))
 
 -- how many of the lines below `n` run
-unfoldable pub runningBelow : List Slot → ℕ → ℕ
+unfoldable pub runningBelow : Slots → ℕ → ℕ
 runningBelow s zero = 0
-runningBelow s (suc n) = if (getD s n idle .running) 1 0 + runningBelow s n
+runningBelow s (suc n) = if (slotAt s n .running) 1 0 + runningBelow s n
 
 -- whether one of the lines below `n` runs, or waits with counter 0
 unfoldable pub movable : {X : Type 0} → Machine X → ℕ → Bool
@@ -93,7 +94,7 @@ module _ {X : Type 0} (S : Source X) where
       (record {
         answer = Started l 0 t (m .placed);
         machine = withPlace m (filled m l 0)
-            (set (m .slots) l (runs 0 t (m .placed))) (suc (m .placed)) (m .stopped) x;
+            (putSlot (m .slots) l (runs 0 t (m .placed))) (suc (m .placed)) (m .stopped) x;
       })
 
   -- a start at a later pipe, with the token and place that the line holds
@@ -102,7 +103,7 @@ module _ {X : Type 0} (S : Source X) where
       record {
         answer = Started l (s .pipe .0) (s .token .0) (s .place .0);
         machine = withPlace m (filled m l (s .pipe .0))
-            (set (m .slots) l (runs (s .pipe .0) (s .token .0) (s .place .0))) (m .placed) (m .stopped) (m .source);
+            (putSlot (m .slots) l (runs (s .pipe .0) (s .token .0) (s .place .0))) (m .placed) (m .stopped) (m .source);
       }
 
   -- "Waiting with counter 0: start."
@@ -119,7 +120,7 @@ module _ {X : Type 0} (S : Source X) where
       mustNot (eqb (getD c i 0) 0) (refuse m 14)
       (record {
         answer = Finished l (s .pipe .0) (s .token .0) (s .place .0);
-        machine = withPlace m (fall c i) (set (m .slots) l (moved (m .pipes) s)) (m .placed) (m .stopped) x;
+        machine = withPlace m (fall c i) (putSlot (m .slots) l (moved (m .pipes) s)) (m .placed) (m .stopped) x;
       })
 
   -- "If the pipe is serial, the counter of line (l + 1) mod L at the same pipe falls by one"; 14 if it is 0
@@ -195,7 +196,7 @@ opened plan workers source =
       workers = workers;
       serial = plan .serial;
       counters = tabled plan (λ l p. openedCounter l p (getD (plan .serial) p false));
-      slots = replicate 32 idle;
+      slots = allIdle;
       placed = 0;
       stopped = false;
       source = source;

@@ -6,22 +6,26 @@ use lib.Dec.{leb, ltb, eqb}
 use lib.ListN.{getD}
 use Rattle.rules.specs.Lists.{if, must, all, within, every}
 use Rattle.rules.specs.Sources.{Source}
-use Rattle.rules.specs.RunState.{Machine, idle, isSerial, full}
+use Rattle.rules.specs.RunState.{Machine, slotAt, isSerial, full}
 use Rattle.rules.specs.declared.Slot.{Slot}
+use Rattle.rules.specs.declared.Slots.{Slots}
 
 -- a slot is that of a line that waits at pipe 0 with no token
 unfoldable pub isIdle : Slot → Bool
 isIdle s = all (not (s .running) ∷ eqb (s .pipe .0) 0 ∷ eqb (s .token .0) 0 ∷ eqb (s .place .0) 0 ∷ [])
 
--- the numbers of a slot in use: its pipe is below P, its token and its place are below N
-unfoldable pub slotInRange : ℕ → ℕ → Slot → Bool
-slotInRange pipes tokens s = all (ltb (s .pipe .0) pipes ∷ ltb (s .token .0) tokens ∷ ltb (s .place .0) tokens ∷ [])
+-- a slot of a line that runs, or waits past pipe 0: its pipe is below P, its token and its place are below N
+unfoldable pub isLoaded : ℕ → ℕ → Slot → Bool
+isLoaded pipes tokens s =
+    all (
+    if (s .running) true (ltb 0 (s .pipe .0)) ∷
+    ltb (s .pipe .0) pipes ∷ ltb (s .token .0) tokens ∷ ltb (s .place .0) tokens ∷ [])
 
--- a slot is idle, or else that of a line of the plan, and in range
-unfoldable pub slotSound : ℕ → ℕ → ℕ → List Slot → ℕ → Bool
+-- a slot is idle, or else of a line of the plan, and loaded
+unfoldable pub slotSound : ℕ → ℕ → ℕ → Slots → ℕ → Bool
 slotSound pipes lines tokens slots l =
-    if (isIdle (getD slots l idle)) true
-    (all (ltb l lines ∷ slotInRange pipes tokens (getD slots l idle) ∷ []))
+    if (isIdle (slotAt slots l)) true
+    (all (ltb l lines ∷ isLoaded pipes tokens (slotAt slots l) ∷ []))
 
 -- the most that a counter may be: its full value; "unused ones are 0"
 unfoldable pub mostAt : ℕ → ℕ → List Bool → ℕ → ℕ → ℕ

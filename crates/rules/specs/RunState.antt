@@ -2,8 +2,9 @@
 use mathlib.Core.Bool.{Bool, true, false}
 use mathlib.Core.List.{List}
 use Prim.Native.Nat.{ℕ, _+_, _*_}
-use lib.ListN.{getD}
+use lib.ListN.{getD, set, replicate}
 use Rattle.rules.specs.declared.Slot.{Slot}
+use Rattle.rules.specs.declared.Slots.{Slots}
 use Rattle.rules.specs.PipeKinds.{fullOf, kindIf}
 
 -- a plan, but for its records: P, L, N, and which pipes are serial
@@ -22,7 +23,7 @@ pub record Machine (X : Type 0) : Type 0 where
   pub workers : ℕ
   pub serial : List Bool
   pub counters : List ℕ
-  pub slots : List Slot
+  pub slots : Slots
   pub placed : ℕ
   pub stopped : Bool
   pub source : X
@@ -39,13 +40,39 @@ runs p t k = record { pipe = record { 0 = p }; running = true; token = record { 
 abbrev pub waits : ℕ → ℕ → ℕ → Slot
 waits p t k = record { pipe = record { 0 = p }; running = false; token = record { 0 = t }; place = record { 0 = k } }
 
+-- what a line does, by the rows of all; and the rows with what one line does put anew
+unfoldable pub slotAt : Slots → ℕ → Slot
+slotAt s l = record {
+  pipe = getD (s .at) l (idle .pipe);
+  running = getD (s .running) l (idle .running);
+  token = getD (s .token) l (idle .token);
+  place = getD (s .place) l (idle .place);
+}
+
+unfoldable pub putSlot : Slots → ℕ → Slot → Slots
+putSlot s l v = record {
+  at = set (s .at) l (v .pipe);
+  running = set (s .running) l (v .running);
+  token = set (s .token) l (v .token);
+  place = set (s .place) l (v .place);
+}
+
+-- "Each line waits at pipe 0."
+unfoldable pub allIdle : Slots
+allIdle = record {
+  at = replicate 32 (idle .pipe);
+  running = replicate 32 (idle .running);
+  token = replicate 32 (idle .token);
+  place = replicate 32 (idle .place);
+}
+
 -- "There is a counter for each line and pipe", of 512 (32 × 16)
 abbrev pub counterAt : ℕ → ℕ → ℕ
 counterAt l p = 16 * l + p
 
 -- a line's slot, a line's counter at a pipe, and whether a pipe is serial
 abbrev pub slotOf : {X : Type 0} → Machine X → ℕ → Slot
-slotOf m l = getD (m .slots) l idle
+slotOf m l = slotAt (m .slots) l
 
 abbrev pub counterOf : {X : Type 0} → Machine X → ℕ → ℕ → ℕ
 counterOf m l p = getD (m .counters) (counterAt l p) 0

@@ -8,7 +8,7 @@ use lib.Dec.{eqb}
 use lib.ListN.{length, getD, replicate}
 use Rattle.rules.specs.Lists.{if, all, samePair, Every}
 use Rattle.rules.specs.Sources.{Source, Writes}
-use Rattle.rules.specs.RunState.{Pipeline, Machine, full, idle}
+use Rattle.rules.specs.RunState.{Pipeline, Machine, allIdle, full}
 use Rattle.rules.specs.Choices.{Answer, Started, Finished, Stopped, Refused, tabled, opened, choose, answers, follow, ended}
 use Rattle.rules.specs.PlainSheet.{Row, rows}
 
@@ -51,7 +51,7 @@ final plan workers placed source =
       workers = workers;
       serial = plan .serial;
       counters = tabled plan (λ l p. endedCounter (placed % plan .lines) l p (getD (plan .serial) p false));
-      slots = replicate 32 idle;
+      slots = allIdle;
       placed = placed;
       stopped = true;
       source = source;

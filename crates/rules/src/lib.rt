@@ -28,3 +28,11 @@ pub struct Slot {
     pub token: Token,
     pub place: Place,
 }
+
+// The slots of all lines, a row for each kind of number: so a test of all of them takes a few instructions a row.
+pub struct Slots {
+    pub at: [Pipe; 32],
+    pub running: [bool; 32],
+    pub token: [Token; 32],
+    pub place: [Place; 32],
+}

@@ -5,7 +5,8 @@ pub mod Filling
 pub mod Rows
 -- the highest of some numbers, and tests of it;
 pub mod Highest
--- the counters and the slots, those of the plan's lines and the unused ones;
+-- the flags, the counters and the slots, those of the plan's lines and the unused ones;
+pub mod FlagLaws
 pub mod CounterLaws
 pub mod SlotLaws
 -- the code's tests, one after another, are the rules' ranges;

@@ -6,21 +6,23 @@ use lib.Dec.{eqb, ltb}
 use lib.ListN.{getD}
 use Rattle.rules.specs.Lists.{must, all, every}
 use Rattle.rules.specs.declared.Slot.{Slot}
-use Rattle.rules.specs.RunState.{idle, counterAt}
+use Rattle.rules.specs.declared.Slots.{Slots}
+use Rattle.rules.specs.RunState.{slotAt, counterAt}
 use Rattle.state.specs.declared.State.{State}
+use Rattle.state.specs.Machines.{slotsOf}
 
 -- a line that cannot move: its numbers are within the tables, it waits, and its counter is above 0
-unfoldable pub isStill : List ℕ → List Slot → ℕ → Bool
+unfoldable pub isStill : List ℕ → Slots → ℕ → Bool
 isStill counters slots l =
-    let slot : Slot = getD slots l idle in
+    let slot : Slot = slotAt slots l in
     all (
     ltb l 32 ∷ ltb (slot .pipe .0) 16 ∷ not (slot .running) ∷
     not (eqb (getD counters (counterAt l (slot .pipe .0)) 0) 0) ∷ [])
 
 -- "The run has ended when it is marked stopped, no line runs and no waiting line has counter 0." For any state; of one in
 -- range it is the rules' `ended`.
-unfoldable pub overOf : Bool → ℕ → List ℕ → List Slot → Bool
+unfoldable pub overOf : Bool → ℕ → List ℕ → Slots → Bool
 overOf stopped lines counters slots = must stopped false (every lines (isStill counters slots))
 
 abbrev pub endedOf : State → Bool
-endedOf s = overOf (s .stopped) (s .lines) (s .counters) (s .slots)
+endedOf s = overOf (s .stopped) (s .lines) (s .counters) (slotsOf s)

@@ -3,9 +3,14 @@ use mathlib.Core.List.{List}
 use Prim.Native.Nat.{ℕ, _<_, _≤_}
 use Rattle.rules.specs.RunState.{Machine}
 use Rattle.rules.specs.declared.Slot.{Slot}
+use Rattle.rules.specs.declared.Slots.{Slots}
 use Rattle.tables.specs.State as tables
 use Rattle.state.specs.declared.State.{State}
 use Rattle.state.specs.declared.Figures.{Figures}
+
+-- what its lines do
+abbrev pub slotsOf : State → Slots
+slotsOf s = record { at = s .at; running = s .running; token = s .token; place = s .place }
 
 -- the machine of a state and its memory
 unfoldable pub machineOf : State → List ℕ → Machine tables.State
@@ -17,21 +22,24 @@ machineOf s mem =
       workers = s .workers;
       serial = s .serial;
       counters = s .counters;
-      slots = s .slots;
+      slots = slotsOf s;
       placed = s .placed;
       stopped = s .stopped;
       source = (s .tables, mem);
     }
 
 -- the state of its parts
-abbrev pub whole : Figures → List ℕ → List Slot → State
+abbrev pub whole : Figures → List ℕ → Slots → State
 whole f counters slots = record {
   pipes = f .pipes;
   lines = f .lines;
   workers = f .workers;
   serial = f .serial;
   counters = counters;
-  slots = slots;
+  at = slots .at;
+  running = slots .running;
+  token = slots .token;
+  place = slots .place;
   placed = f .placed;
   stopped = f .stopped;
   tables = f .tables;

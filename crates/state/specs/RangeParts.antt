@@ -2,13 +2,13 @@
 use mathlib.Core.Bool.{Bool, false}
 use mathlib.Core.List.{List, [], _∷_}
 use Prim.Native.Nat.{ℕ, zero, suc, _+_, _-_}
-use lib.Dec.{leb, ltb, eqb}
+use lib.Dec.{leb, ltb}
 use lib.ListN.{getD}
 use Rattle.rules.specs.Lists.{if, all, within, every, table}
-use Rattle.rules.specs.declared.Slot.{Slot}
-use Rattle.rules.specs.RunState.{idle, counterAt}
+use Rattle.rules.specs.declared.Slots.{Slots}
+use Rattle.rules.specs.RunState.{counterAt}
 use Rattle.rules.specs.Choices.{runningBelow}
-use Rattle.rules.specs.Ranges.{isIdle}
+use Rattle.rules.specs.Ranges.{slotSound}
 use Rattle.state.specs.declared.Figures.{Figures}
 use Rattle.state.specs.declared.slots.Tally.{Tally}
 
@@ -16,9 +16,12 @@ use Rattle.state.specs.declared.slots.Tally.{Tally}
 unfoldable pub everyFrom : ℕ → ℕ → (ℕ → Bool) → Bool
 everyFrom from to f = every (to - from) (λ i. f (from + i))
 
--- the larger of two numbers, and the highest of a function's first values; 0 if there are none
+-- the larger and the smaller of two numbers, and the highest of a function's first values; 0 if there are none
 unfoldable pub larger : ℕ → ℕ → ℕ
 larger a b = if (ltb a b) b a
+
+unfoldable pub smaller : ℕ → ℕ → ℕ
+smaller a b = if (ltb b a) b a
 
 unfoldable pub highest : ℕ → (ℕ → ℕ) → ℕ
 highest zero f = 0
@@ -46,20 +49,13 @@ raisedRow counters row l = table 16 (λ p. larger (getD row p 0) (getD counters 
 unfoldable pub rowWithin : List ℕ → List ℕ → Bool
 rowWithin row most = every 16 (λ p. leb (getD row p 0) (getD most p 0))
 
--- what a slot holds: its token or its place, whichever is higher
-unfoldable pub heldOf : Slot → ℕ
-heldOf s = larger (s .token .0) (s .place .0)
+-- 2 for each pipe of the plan, and 0 for what is none; and 2 for each flag that is set
+unfoldable pub pipeRow : ℕ → List ℕ
+pipeRow pipes = table 16 (λ p. if (ltb p pipes) 2 0)
 
--- what a walk over the slots finds, of the first ones and of the others
-unfoldable pub tallyOf : List Slot → ℕ → ℕ → Tally
-tallyOf slots used line = record {
-  pipe = highest used (λ l. getD slots l idle .pipe .0);
-  held = highest used (λ l. heldOf (getD slots l idle));
-  running = runningBelow slots used;
-  rest = everyFrom used 32 (λ l. isIdle (getD slots l idle));
-  slot = getD slots line idle;
-}
+unfoldable pub flagRow : List Bool → List ℕ
+flagRow serial = table 16 (λ p. if (getD serial p false) 2 0)
 
--- and whether all slots are then within their ranges: in a plan without tokens all are idle
-unfoldable pub fitsOf : Tally → ℕ → ℕ → Bool
-fitsOf t pipes tokens = if (eqb tokens 0) (t .rest) (all (ltb (t .pipe) pipes ∷ ltb (t .held) tokens ∷ t .rest ∷ []))
+-- what a walk over the slots finds: whether all are within their ranges, and how many lines run
+unfoldable pub tallyOf : Slots → ℕ → ℕ → ℕ → Tally
+tallyOf slots pipes lines tokens = record { sound = every 32 (slotSound pipes lines tokens slots); running = runningBelow slots 32 }

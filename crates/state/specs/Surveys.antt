@@ -3,10 +3,9 @@ use mathlib.Core.Bool.{Bool, true, false}
 use mathlib.Core.List.{List, [], _∷_}
 use Prim.Native.Nat.{ℕ}
 use lib.Dec.{ltb}
-use lib.ListN.{getD}
 use Rattle.rules.specs.Lists.{if, must, all, every}
-use Rattle.rules.specs.declared.Slot.{Slot}
-use Rattle.rules.specs.RunState.{idle}
+use Rattle.rules.specs.declared.Slots.{Slots}
+use Rattle.rules.specs.RunState.{idle, slotAt}
 use Rattle.rules.specs.Choices.{runningBelow}
 use Rattle.rules.specs.Ranges.{counterSound, sound}
 use Rattle.tables.specs.State as tables
@@ -35,7 +34,7 @@ spoiled = record { sound = false; running = 0; slot = idle }
 
 -- "14 if .. a number in state or memory is outside its range": whether none is, and then how many lines run and what the chosen
 -- line does
-unfoldable pub surveyOf : Figures → List ℕ → List Slot → List ℕ → ℕ → Survey
+unfoldable pub surveyOf : Figures → List ℕ → Slots → List ℕ → ℕ → Survey
 surveyOf f counters slots mem line =
     must (sound memorySource (machineOf (whole f counters slots) mem)) spoiled
-    (record { sound = true; running = runningBelow slots (f .lines); slot = getD slots (near line) idle })
+    (record { sound = true; running = runningBelow slots (f .lines); slot = slotAt slots (near line) })

@@ -4,36 +4,44 @@
 use crate::limits::COUNTERS_OF_LINE;
 use crate::limits::FLAGS;
 use crate::limits::SLOTS;
+use crate::rows;
 use rules::PipeKind;
 ghost use mathlib.Core.Path.{_≡_};
 ghost use Prim.Native.Nat.{_<_, _≤_};
-ghost use lib.Dec.{ltb};
-ghost use Rattle.rules.specs.Lists.{must, every, table};
+ghost use Rattle.rules.specs.Lists.{every, table};
 ghost use Rattle.rules.specs.RunState.{full};
 ghost use Rattle.rules.specs.Ranges.{mostAt, counterSound};
-ghost use Rattle.state.specs.RangeParts.{larger as largerOf, raisedRow, highestRow, rowWithin};
+ghost use Rattle.state.specs.RangeParts.{larger as largerOf, smaller as smallerOf, raisedRow, highestRow};
 
-// The most that the counter of a line of the plan may be at a pipe.
-fn most_at(serial: bool, pipes: u8, p: u8) -> u8
-    ensures { λ r. ⌜ r ≡ must (ltb p pipes) 0 (full serial) ⌝ }
+// The smaller of two numbers.
+fn smaller(a: u8, b: u8) -> u8
+    ensures { λ r. ⌜ r ≡ smallerOf a b ⌝ }
 {
-    if pipes <= p {
-        return 0;
+    if b < a {
+        return b;
     }
+    a
+}
+
+// The full value of a counter at a pipe that is serial, or is not.
+fn full_value(serial: bool) -> u8
+    ensures { λ r. ⌜ r ≡ full serial ⌝ }
+{
     let kind = PipeKind::from_flag(serial);
     kind.full()
 }
 
-// The same for each pipe: no line of the plan differs from the first.
-fn most_row(serial: [bool; 16], pipes: u8) -> [u8; 16]
-    ensures { λ r. ⌜ r ≡ table 16 (mostAt pipes 1 serial 0) ⌝ }
+// The most that the counter of a line of the plan may be at each pipe: no line differs from the first.
+fn most_row(serial: &[bool; 16], pipes: usize) -> [u8; 16]
+    requires { ⌜ pipes ≤ 16 ⌝ }
+    ensures { λ r. ⌜ r ≡ table 16 (mostAt pipes 1 (now (serial .entry)) 0) ⌝ }
 {
+    let known = rows::pipe_row(pipes);
     let mut most = [0; FLAGS];
-    let mut p: u8 = 0;
-    while p < 16 {
-        let at = p as usize;
-        let flag = serial[at];
-        most[at] = most_at(flag, pipes, p);
+    let mut p: usize = 0;
+    while p < FLAGS {
+        let high = full_value(serial[p]);
+        most[p] = smaller(known[p], high);
         p += 1;
     }
     most
@@ -80,40 +88,22 @@ fn highest_row(counters: &[u8; 512], from: usize, to: usize) -> [u8; 16]
     row
 }
 
-// Whether no number of a row is above that of another.
-fn row_within(row: [u8; 16], most: [u8; 16]) -> bool
-    ensures { λ r. ⌜ r ≡ rowWithin row most ⌝ }
-{
-    let mut ok = true;
-    let mut p: usize = 0;
-    while p < COUNTERS_OF_LINE {
-        let high = row[p];
-        if most[p] < high {
-            ok = false;
-            p += 1;
-        } else {
-            p += 1;
-        }
-    }
-    ok
-}
-
 // All counters: "unused ones are 0".
-pub(crate) fn counters_sound(
-    counters: &[u8; 512],
-    serial: [bool; 16],
-    pipes: u8,
+pub(crate) fn counters_sound<'a>(
+    counters: &'a [u8; 512],
+    serial: &'a [bool; 16],
+    pipes: usize,
     lines: usize,
 ) -> bool
-    requires { ⌜ lines ≤ 32 ⌝ }
-    ensures { λ r. ⌜ r ≡ every 512 (counterSound pipes lines serial (now (counters .entry))) ⌝ }
+    requires { ⌜ (pipes ≤ 16) × (lines ≤ 32) ⌝ }
+    ensures { λ r. ⌜ r ≡ every 512 (counterSound pipes lines (now (serial .entry)) (now (counters .entry))) ⌝ }
 {
     let most = most_row(serial, pipes);
     let used = highest_row(counters, 0, lines);
-    if !row_within(used, most) {
+    if !rows::row_within(used, most) {
         return false;
     }
     let none = [0; FLAGS];
     let unused = highest_row(counters, lines, SLOTS);
-    row_within(unused, none)
+    rows::row_within(unused, none)
 }

@@ -1,8 +1,11 @@
 // The state of a run: its numbers and their ranges, and its end.
 mod counters;
 mod ending;
+mod flags;
+mod joint;
 mod limits;
 mod ranges;
+mod rows;
 mod slots;
 
 pub use ending::is_over;
@@ -13,7 +16,10 @@ pub use limits::MOST_WORKERS;
 pub use limits::SLOTS;
 pub use ranges::Survey;
 pub use ranges::look_over;
-use rules::Slot;
+use rules::Pipe;
+use rules::Place;
+use rules::Slots;
+use rules::Token;
 use tables::Tables;
 ghost use mathlib.Core.Path.{_≡_};
 ghost use mathlib.Core.Bool.{true};
@@ -26,8 +32,8 @@ ghost use Rattle.state.specs.Machines.{machineOf};
 ghost use Rattle.state.specs.Ending.{endedOf};
 
 // The state of a run: P, L, W, how many tokens have a place, whether the run is marked stopped, the numbers of the token tables,
-// N among them, which pipes are serial, the join counters (16 to a line), and what each line does. (The two large arrays come last:
-// a state is copied at each choice, and they are then copied by themselves.)
+// N among them, which pipes are serial, the join counters (16 to a line), and what each line does: its pipe, whether it runs, its
+// token and its place. (The large arrays come last: a state is copied at each choice, and they are then copied by themselves.)
 pub struct State {
     pub pipes: u16,
     pub lines: u16,
@@ -37,7 +43,10 @@ pub struct State {
     pub tables: Tables,
     pub serial: [bool; 16],
     pub counters: [u8; 512],
-    pub slots: [Slot; 32],
+    pub at: [Pipe; 32],
+    pub running: [bool; 32],
+    pub token: [Token; 32],
+    pub place: [Place; 32],
 }
 
 // The state but for its counters and slots.
@@ -56,6 +65,15 @@ pub fn ended(s: State) -> bool
     ensures answer { λ r. ⌜ r ≡ endedOf s ⌝ }
     ensures rules { λ r. ⌜ ((m : List ℕ) → soundBy memorySource (machineOf s m) ≡ true → r ≡ endedBy (machineOf s m)) ⌝ }
 {
-    let slots = s.slots;
+    let at = s.at;
+    let running = s.running;
+    let token = s.token;
+    let place = s.place;
+    let slots = Slots {
+        at,
+        running,
+        token,
+        place,
+    };
     is_over(s.stopped, s.lines, slots, &s.counters)
 }

@@ -1,6 +1,7 @@
 // A state looked over, as each choice does first: whether every number of it is within its range.
 use crate::Figures;
 use crate::counters;
+use crate::flags;
 use crate::limits::MOST_LINES;
 use crate::limits::MOST_PIPES;
 use crate::limits::MOST_TOKENS;
@@ -10,12 +11,11 @@ use crate::slots;
 use rules::Pipe;
 use rules::Place;
 use rules::Slot;
+use rules::Slots;
 use rules::Token;
 ghost use mathlib.Core.Path.{_≡_};
 ghost use Prim.Native.Nat.{_<_};
-ghost use lib.Dec.{ltb};
-ghost use Rattle.rules.specs.Lists.{if, every};
-ghost use Rattle.state.specs.RangeParts.{figuresSound, flagSound};
+ghost use Rattle.state.specs.RangeParts.{figuresSound};
 ghost use Rattle.state.specs.Surveys.{restSound, near as nearOf, spoiled, surveyOf};
 
 // What a look over the state tells: whether it is sound, and if so how many lines run and what the chosen line does.
@@ -23,34 +23,6 @@ pub struct Survey {
     pub sound: bool,
     pub running: u16,
     pub slot: Slot,
-}
-
-// Pipe 0 is serial, and what is no pipe of the plan is not.
-fn flag_sound(serial: bool, p: u8, pipes: u8) -> bool
-    ensures { λ r. ⌜ r ≡ if serial (ltb p pipes) (ltb 0 p) ⌝ }
-{
-    if serial {
-        return p < pipes;
-    }
-    0 < p
-}
-
-// The flags of all pipes.
-fn flags_sound(serial: [bool; 16], pipes: u8) -> bool
-    ensures { λ r. ⌜ r ≡ every 16 (flagSound pipes serial) ⌝ }
-{
-    let mut ok = true;
-    let mut p: u8 = 0;
-    while p < 16 {
-        let flag = serial[p as usize];
-        if flag_sound(flag, p, pipes) {
-            p += 1;
-        } else {
-            ok = false;
-            p += 1;
-        }
-    }
-    ok
 }
 
 // The single numbers: P, L, N, W and how many tokens have a place.
@@ -89,13 +61,12 @@ fn rest_sound(f: Figures, counters: &[u8; 512], mem: &[u16]) -> bool
     if !numbers_sound(f) {
         return false;
     }
-    let pipes = f.pipes as u8;
+    let pipes = f.pipes as usize;
     let lines = f.lines as usize;
-    let serial = f.serial;
-    if !counters::counters_sound(counters, serial, pipes, lines) {
+    if !counters::counters_sound(counters, &f.serial, pipes, lines) {
         return false;
     }
-    if !flags_sound(serial, pipes) {
+    if !flags::flags_sound(&f.serial, pipes) {
         return false;
     }
     let t = f.tables;
@@ -132,25 +103,23 @@ fn unsound() -> Survey
 }
 
 // Every number of the state, and of the tables and their memory.
-pub fn look_over(
-    f: Figures,
-    slots: [Slot; 32],
-    counters: &[u8; 512],
-    mem: &[u16],
-    line: u16,
-) -> Survey
+pub fn look_over(f: Figures, slots: Slots, counters: &[u8; 512], mem: &[u16], line: u16) -> Survey
     ensures { λ r. ⌜ r ≡ surveyOf f (now (counters .entry)) slots (now (mem .entry)) line ⌝ }
 {
     if !rest_sound(f, counters, mem) {
         return unsound();
     }
-    let tokens = f.tables.tokens;
-    let used = slots::used_lines(f.lines as usize, tokens);
-    let found = slots::walk(slots, used, near(line));
-    if !slots::fits(found, f.pipes, tokens) {
+    let found = slots::walk(slots, f.lines, f.pipes, f.tables.tokens);
+    if !found.sound {
         return unsound();
     }
-    let slot = found.slot;
+    let l = near(line);
+    let slot = Slot {
+        pipe: slots.at[l],
+        running: slots.running[l],
+        token: slots.token[l],
+        place: slots.place[l],
+    };
     Survey {
         sound: true,
         running: found.running,

@@ -1,22 +1,22 @@
-// Whether the lines' slots are within their ranges, and what else a choice asks of them. An array by value is copied for each
-// function that takes it: so one walk finds all.
+// Whether the lines' slots are within their ranges, and how many lines run. It is asked at every choice: so one walk finds both, with
+// no branch and no way out, a row for each kind of number.
+use crate::joint;
 use crate::limits::SLOTS;
 use rules::Slot;
+use rules::Slots;
 ghost use mathlib.Core.Path.{_≡_};
+ghost use mathlib.Core.Bool.{true};
+ghost use mathlib.Core.List.{[], _∷_};
 ghost use Prim.Native.Nat.{_+_, _<_, _≤_};
-ghost use lib.Dec.{eqb};
-ghost use Rattle.rules.specs.Lists.{if};
-ghost use Rattle.rules.specs.Ranges.{isIdle};
-ghost use Rattle.state.specs.RangeParts.{larger as largerOf, tallyOf, fitsOf};
+ghost use lib.Dec.{eqb, ltb};
+ghost use Rattle.rules.specs.Lists.{if, all};
+ghost use Rattle.rules.specs.Ranges.{isIdle, isLoaded};
+ghost use Rattle.state.specs.RangeParts.{larger as largerOf, tallyOf};
 
-// What a walk over the slots finds: the highest pipe and the highest token or place of the first lines, how many of these run,
-// whether the other slots are idle, and the slot of one line.
+// What a walk over the slots finds: whether all are within their ranges, and how many lines run.
 pub struct Tally {
-    pub pipe: u16,
-    pub held: u16,
+    pub sound: bool,
     pub running: u16,
-    pub rest: bool,
-    pub slot: Slot,
 }
 
 // The larger of two numbers.
@@ -29,23 +29,35 @@ fn larger(a: u16, b: u16) -> u16
     a
 }
 
-// A line that waits at pipe 0 with no token.
-fn is_idle(s: Slot) -> bool
-    ensures { λ r. ⌜ r ≡ isIdle s ⌝ }
+// What a line's token and place must be below: N, or for a line that the plan does not have nothing.
+fn bound(used: bool, tokens: u16) -> u16
+    ensures { λ r. ⌜ r ≡ if used tokens 0 ⌝ }
 {
-    if s.pipe.0 != 0 {
-        return false;
+    if used {
+        return tokens;
     }
-    if s.running {
-        return false;
+    0
+}
+
+// A token or place of a line that runs or waits past pipe 0, and of any other: that one holds none.
+fn held_sound(loaded: bool, held: u16, bound: u16) -> bool
+    ensures { λ r. ⌜ r ≡ if loaded (ltb held bound) (eqb held 0) ⌝ }
+{
+    if loaded {
+        return held < bound;
     }
-    if s.token.0 != 0 {
-        return false;
-    }
-    if s.place.0 != 0 {
-        return false;
-    }
-    true
+    held == 0
+}
+
+// The slot of a line that the plan has, or has not.
+fn slot_sound(s: Slot, used: bool, pipes: u16, tokens: u16) -> bool
+    requires { ⌜ 1 ≤ pipes ⌝ }
+    ensures { λ r. ⌜ r ≡ if (isIdle s) true (all (used ∷ isLoaded pipes tokens s ∷ [])) ⌝ }
+{
+    let loaded = joint::either(s.running, 0 < s.pipe.0);
+    let held = larger(s.token.0, s.place.0);
+    let fits = held_sound(loaded, held, bound(used, tokens));
+    joint::both(s.pipe.0 < pipes, fits)
 }
 
 // One more line that runs, or does not.
@@ -60,64 +72,25 @@ fn counted(n: u16, running: bool) -> u16
     n
 }
 
-// The walk: the first `used` slots, and then the others.
-pub(crate) fn walk(slots: [Slot; 32], used: usize, line: usize) -> Tally
-    requires { ⌜ (used ≤ 32) × (line < 32) ⌝ }
-    ensures { λ r. ⌜ r ≡ tallyOf slots used line ⌝ }
+// The walk.
+pub(crate) fn walk(slots: Slots, lines: u16, pipes: u16, tokens: u16) -> Tally
+    requires { ⌜ 1 ≤ pipes ⌝ }
+    ensures { λ r. ⌜ r ≡ tallyOf slots pipes lines tokens ⌝ }
 {
-    let mut pipe: u16 = 0;
-    let mut held: u16 = 0;
+    let mut sound = true;
     let mut running: u16 = 0;
     let mut l: usize = 0;
-    while l < used {
-        let slot = slots[l];
-        pipe = larger(pipe, slot.pipe.0);
-        held = larger(held, larger(slot.token.0, slot.place.0));
+    while l < SLOTS {
+        let slot = Slot {
+            pipe: slots.at[l],
+            running: slots.running[l],
+            token: slots.token[l],
+            place: slots.place[l],
+        };
+        let used = (l as u16) < lines;
+        sound = joint::both(slot_sound(slot, used, pipes, tokens), sound);
         running = counted(running, slot.running);
         l += 1;
     }
-    let mut rest = true;
-    while l < SLOTS {
-        let slot = slots[l];
-        if is_idle(slot) {
-            l += 1;
-        } else {
-            rest = false;
-            l += 1;
-        }
-    }
-    let slot = slots[line];
-    Tally {
-        pipe,
-        held,
-        running,
-        rest,
-        slot,
-    }
-}
-
-// How many slots may hold a token: those of the plan's lines, if the plan has tokens.
-pub(crate) fn used_lines(lines: usize, tokens: u16) -> usize
-    ensures { λ r. ⌜ r ≡ if (eqb tokens 0) 0 lines ⌝ }
-{
-    if tokens == 0 {
-        return 0;
-    }
-    lines
-}
-
-// Whether all slots are within their ranges, by what the walk found.
-pub(crate) fn fits(t: Tally, pipes: u16, tokens: u16) -> bool
-    ensures { λ r. ⌜ r ≡ fitsOf t pipes tokens ⌝ }
-{
-    if tokens == 0 {
-        return t.rest;
-    }
-    if pipes <= t.pipe {
-        return false;
-    }
-    if tokens <= t.held {
-        return false;
-    }
-    t.rest
+    Tally { sound, running }
 }

@@ -26,6 +26,9 @@ pub(crate) const TOKENS: u16 = 4096;
 // The most numbers in a record.
 pub(crate) const RECORD_NUMBERS: usize = 16;
 
+// The last place at which a record of so many numbers still ends among the records: its count stands there, and its numbers after it.
+pub(crate) const LAST_PLACE: usize = POSITIONS - 17;
+
 // The standings.
 pub(crate) const NO_MARK: u16 = 0;
 

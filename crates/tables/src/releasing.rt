@@ -3,6 +3,7 @@ use crate::Count;
 use crate::Released;
 use crate::Tables;
 use crate::Test;
+use crate::facts::waits_at_once;
 use crate::facts::wakes;
 use crate::facts::wide;
 use crate::layout::DEFERRED;
@@ -12,7 +13,7 @@ use crate::layout::READY_MARK;
 use crate::layout::STANDINGS;
 use crate::layout::TOKENS;
 ghost use mathlib.Core.Path.{_≡_};
-ghost use Prim.Native.Nat.{_+_, _-_, _<_, _≤_};
+ghost use Prim.Native.Nat.{ℕ, _+_, _-_, _<_, _≤_};
 ghost use lib.ListN.{length, replicate};
 ghost use lib.Seq.{sets, slice};
 ghost use Rattle.tables.specs.Layout.{deferredAt, readyAt, lent, mostTokens, readyMark, factsOf};
@@ -35,6 +36,24 @@ fn woken(facts: &[u16], tokens: u16, past: u16, token: u16) -> bool
     }
 }
 
+// The first cell from `from` on whose token is not seen at once to wait, or `last`.
+// This is a loop of its own so that it stays short: a finish goes through most of the table here.
+fn past_waiting(mem: &[u16], tokens: u16, past: u16, from: usize, last: usize) -> usize
+    requires { ⌜ (lent ≤ length (now mem)) × (tokens ≤ mostTokens) ⌝ }
+    requires { ⌜ (deferredAt ≤ from) × ((from ≤ last) × (last ≤ readyAt)) ⌝ }
+    ensures within { λ r. ⌜ (from ≤ r) × (r ≤ last) ⌝ }
+    ensures same { λ r. ⌜ ((n : ℕ) → tallyOf (wakesOf (factsOf (now (mem .entry))) tokens past) n (slice from last (now (mem .entry))) ≡ tallyOf (wakesOf (factsOf (now (mem .entry))) tokens past) n (slice r last (now (mem .entry)))) ⌝ }
+{
+    let mut cell = from;
+    while cell < last {
+        if !waits_at_once(&mem[..DEFERRED], tokens, past, mem[cell]) {
+            return cell;
+        }
+        cell += 1;
+    }
+    cell
+}
+
 // How many tokens of the deferred table, which ends at `last`, wake.
 fn count_woken(mem: &[u16], tokens: u16, past: u16, last: usize) -> Count
     requires { ⌜ (lent ≤ length (now mem)) × (tokens ≤ mostTokens) ⌝ }
@@ -44,13 +63,18 @@ fn count_woken(mem: &[u16], tokens: u16, past: u16, last: usize) -> Count
     let mut n = 0;
     let mut cell = DEFERRED;
     while cell < last {
-        match wakes(&mem[..DEFERRED], tokens, past, mem[cell]) {
-            Test::Unsound => return Count::Unknown,
-            Test::Yes => {
-                n += 1;
-                cell += 1;
+        let next = past_waiting(mem, tokens, past, cell, last);
+        if next < last {
+            match wakes(&mem[..DEFERRED], tokens, past, mem[next]) {
+                Test::Unsound => return Count::Unknown,
+                Test::Yes => {
+                    n += 1;
+                    cell = next + 1;
+                }
+                Test::No => cell = next + 1,
             }
-            Test::No => cell += 1,
+        } else {
+            cell = next;
         }
     }
     Count::Known(n)

@@ -6,8 +6,9 @@ use Prim.Native.Nat.{ℕ, _<_, _≤_}
 use native.Mathlib.Omega.{arith}
 use borrow.Author.Tests.{lt-ltb, le-ltb, eq-eqb, ne-eqb}
 use lib.ListN.{getD}
-use Rattle.rules.specs.RunState.{Machine, idle, counterAt}
+use Rattle.rules.specs.RunState.{Machine, slotAt, counterAt}
 use Rattle.rules.specs.declared.Slot.{Slot}
+use Rattle.rules.specs.declared.Slots.{Slots}
 use Rattle.rules.specs.declared.refusal.Refusal.{Refusal}
 use Rattle.rules.specs.Choices.{runningBelow, ended, start, finish, move, choose}
 use Rattle.rules.specs.Ranges.{sound}
@@ -28,7 +29,7 @@ use Rattle.engine.proofs.moves.Parts.{refused}
 use Rattle.state.proofs.in_range.SurveyLaws.{tells-sound, tells-slot}
 use Rattle.state.proofs.in_range.SoundLaws as laws
 
-module _ (f : Figures) (counters : List ℕ) (slots : List Slot) (l : ℕ) (mem : List ℕ) where
+module _ (f : Figures) (counters : List ℕ) (slots : Slots) (l : ℕ) (mem : List ℕ) where
   abbrev s : State
   s = whole f counters slots
 
@@ -36,7 +37,7 @@ module _ (f : Figures) (counters : List ℕ) (slots : List Slot) (l : ℕ) (mem 
   machine = machineOf s mem
 
   -- the moves of a line, by its slot and its counter
-  module _ {slot : Slot} (slot-is : getD slots l idle ≡ slot) where
+  module _ {slot : Slot} (slot-is : slotAt slots l ≡ slot) where
     abbrev due : ℕ
     due = getD counters (counterAt l (slot .pipe .0)) 0
 
@@ -73,10 +74,10 @@ module _ (f : Figures) (counters : List ℕ) (slots : List Slot) (l : ℕ) (mem 
       choose-far h = refused s Refusal.NoLine mem refl ∙ rw (sym b-is ∙ ok, le-ltb l (f .lines) h)
 
       module _ (known : l < f .lines) where
-        ready-here : Ready f (getD slots l idle) l
+        ready-here : Ready f (slotAt slots l) l
         ready-here = laws.ready f counters slots mem (sym b-is ∙ ok) l known
 
-        pub slot-here : getD slots l idle ≡ seen .slot
+        pub slot-here : slotAt slots l ≡ seen .slot
         slot-here = sym (tells-slot f counters slots mem l seen-is ok (omega (arith, known, ready-here .lines)))
 
         pub ready-seen : Ready f (seen .slot) l

@@ -13,9 +13,10 @@ use lib.Seq.{set-getD, getD-set-same, getD-set-other}
 use Rattle.rules.specs.Lists.{if}
 use Rattle.rules.specs.declared.Line.{Line}
 use Rattle.rules.specs.declared.Slot.{Slot}
+use Rattle.rules.specs.declared.Slots.{Slots}
 use Rattle.rules.specs.declared.answer.Answer.{Answer}
 use Rattle.rules.specs.declared.refusal.Refusal.{Refusal}
-use Rattle.rules.specs.RunState.{idle, counterAt}
+use Rattle.rules.specs.RunState.{slotAt, counterAt}
 use Rattle.rules.specs.Sources.{Released as Outcome, Broken, Passed}
 use Rattle.rules.specs.Choices.{next, moved, fall, refuse, settle, finishWith, finishFirst, finish}
 use Rattle.rules.specs.Choices as rules
@@ -102,7 +103,7 @@ module _ (f : Figures) (line : Line) (slot : Slot) where
       settledTurn f line slot x t
   settled-with x t e = rw e
 
-module _ (f : Figures) (counters : List ℕ) (slots : List Slot) (line : Line) (slot : Slot) (at : getD slots (line .0) idle ≡ slot) where
+module _ (f : Figures) (counters : List ℕ) (slots : Slots) (line : Line) (slot : Slot) (at : slotAt slots (line .0) ≡ slot) where
   abbrev s : State
   s = whole f counters slots
 

@@ -3,7 +3,7 @@ use mathlib.Core.Path.{_≡_}
 use mathlib.Core.Bool.{Bool}
 use mathlib.Core.List.{List}
 use Prim.Native.Nat.{ℕ, _<_}
-use Rattle.rules.specs.declared.Slot.{Slot}
+use Rattle.rules.specs.declared.Slots.{Slots}
 use Rattle.rules.specs.declared.refusal.Refusal.{Refusal}
 use Rattle.rules.specs.Refusals.{numberOf}
 use Rattle.rules.specs.Choices.{withPlace, refuse}
@@ -20,7 +20,7 @@ use Rattle.engine.specs.Turns.{turned, Fits}
 use Rattle.rules.specs.Answers.{answerOf}
 
 -- the same state but for some of its parts
-abbrev pub withParts : State → List ℕ → List Slot → ℕ → Bool → Tables → State
+abbrev pub withParts : State → List ℕ → Slots → ℕ → Bool → Tables → State
 withParts s counters slots placed stopped tables =
     record {
       pipes = s .pipes;
@@ -28,14 +28,17 @@ withParts s counters slots placed stopped tables =
       workers = s .workers;
       serial = s .serial;
       counters = counters;
-      slots = slots;
+      at = slots .at;
+      running = slots .running;
+      token = slots .token;
+      place = slots .place;
       placed = placed;
       stopped = stopped;
       tables = tables;
     }
 
 -- its machine is that of the state but for these parts, if N is the same
-pub parts : (s : State) (m m′ : List ℕ) {a : rules.Answer} {c c′ : List ℕ} {slots slots′ : List Slot} {k k′ : ℕ} {stopped : Bool} {t : Tables} →
+pub parts : (s : State) (m m′ : List ℕ) {a : rules.Answer} {c c′ : List ℕ} {slots slots′ : Slots} {k k′ : ℕ} {stopped : Bool} {t : Tables} →
     t .tokens ≡ s .tables .tokens → c ≡ c′ → slots ≡ slots′ → k ≡ k′ →
     _≡_ {A = rules.Chosen tables.State} (record { answer = a; machine = machineOf (withParts s c slots k stopped t) m′ })
     (record { answer = a; machine = withPlace (machineOf s m) c′ slots′ k′ stopped (t, m′) })

@@ -7,19 +7,20 @@ use native.Mathlib.Omega.{arith}
 use native.Mathlib.Numerals.{add-one}
 use borrow.Author.Tests.{lt-ltb, le-ltb, ltb-true, eq-eqb, ne-eqb}
 use lib.Dec.{ltb}
-use lib.ListN.{getD, set}
-use lib.Seq.{set-getD}
+use lib.ListN.{set}
 use Rattle.rules.specs.Lists.{if}
 use Rattle.rules.specs.declared.Line.{Line}
 use Rattle.rules.specs.declared.Slot.{Slot}
+use Rattle.rules.specs.declared.Slots.{Slots}
 use Rattle.rules.specs.declared.answer.Answer.{Answer}
 use Rattle.rules.specs.declared.refusal.Refusal.{Refusal}
-use Rattle.rules.specs.RunState.{idle, counterAt}
+use Rattle.rules.specs.RunState.{slotAt, putSlot, counterAt}
 use Rattle.rules.specs.Sources.{Taken as Outcome, Spoiled, Nothing, Took}
 use Rattle.rules.specs.Choices.{refuse, startFirst, startLater, start}
 use Rattle.rules.specs.Choices as rules
 use Rattle.rules.specs.Answers.{answerOf}
 use Rattle.rules.proofs.lists.Tests.{by-test}
+use Rattle.rules.proofs.lists.SlotRows.{put-own}
 use Rattle.tables.specs.declared.Tables.{Tables}
 use Rattle.tables.specs.declared.Taken.{Taken}
 use Rattle.tables.specs.declared.Offer.{Offer}
@@ -98,7 +99,7 @@ module _ (f : Figures) (line : Line) (slot : Slot) {cell : Cell} where
       stoppedTurn f line slot t
   stopped-with t e = rw e
 
-module _ (f : Figures) (counters : List ℕ) (slots : List Slot) (line : Line) where
+module _ (f : Figures) (counters : List ℕ) (slots : Slots) (line : Line) where
   abbrev s : State
   s = whole f counters slots
 
@@ -120,13 +121,13 @@ module _ (f : Figures) (counters : List ℕ) (slots : List Slot) (line : Line) w
   taken t token same room m m′ =
       rw (lt-ltb (f .placed) (f .tables .tokens) room) (parts s m m′ same (full-again 0) refl (add-one (f .placed)))
 
-  module _ (slot : Slot) (at : getD slots (line .0) idle ≡ slot) where
+  module _ (slot : Slot) (at : slotAt slots (line .0) ≡ slot) where
     -- a stop
     stopped : (t : Tables) → t .tokens ≡ f .tables .tokens → (m m′ : List ℕ) →
         chosenOf (turned s (line .0) (stoppedTurn f line slot t)) m′ ≡ startFirst memorySource (machineOf s m) (line .0) (Nothing (t, m′))
     unfolding chosenOf answerOf startFirst machineOf
     stopped t same m m′ =
-        parts s m m′ same (full-again 0) (ap (set slots (line .0)) (sym at) ∙ set-getD slots (line .0) idle) refl
+        parts s m m′ same (full-again 0) (ap (putSlot slots (line .0)) (sym at) ∙ put-own slots (line .0)) refl
 
     -- a token that no place is left for is refused
     over : (m : List ℕ) (o : Outcome tables.State) → if (ltb (f .placed) (f .tables .tokens)) false (isTook o) ≡ true →

@@ -6,7 +6,7 @@ use Prim.Native.Nat.{ℕ, suc, _+_, _*_, _<_}
 use native.Mathlib.Omega.{arith}
 use lib.ListN.{length, getD, set}
 use borrow.Author.Tests.{eq-eqb, ne-eqb, lt-ltb}
-use Rattle.rules.specs.RunState.{Pipeline, idle, runs, waits, full}
+use Rattle.rules.specs.RunState.{Pipeline, idle, runs, waits, slotAt, putSlot, full}
 use Rattle.rules.specs.Choices.{Chosen, Answer, Started, Finished, Stopped, next, moved}
 use Rattle.rules.specs.Sources.{Source}
 use Rattle.rules.specs.Sources.{Passed}
@@ -89,7 +89,7 @@ module _ {X : Type 0} {S : Source X} {plan : Pipeline} {workers : ℕ} {order : 
     leaves : List ℕ → X → State X
     leaves c x = record {
       counters = c;
-      slots = set (st .slots) l (moved (plan .pipes) (runs (g .pipe l) (getD order (g .place l) 0) (g .place l)));
+      slots = putSlot (st .slots) l (moved (plan .pipes) (runs (g .pipe l) (getD order (g .place l) 0) (g .place l)));
       placed = st .placed;
       stopped = st .stopped;
       source = x;
@@ -109,7 +109,7 @@ module _ {X : Type 0} {S : Source X} {plan : Pipeline} {workers : ℕ} {order : 
           (_, r .1, rw (s, pos-eqb (r .0)))
     ]
 
-    slot-here : getD (st .slots) l idle ≡ runs (g .pipe l) (getD order (g .place l) 0) (g .place l)
+    slot-here : slotAt (st .slots) l ≡ runs (g .pipe l) (getD order (g .place l) 0) (g .place l)
     slot-here = inv .slotted .used l i ∙ shown-runs order (st .stopped) g l n b
 
     -- a finish past pipe 0
@@ -177,11 +177,11 @@ module _ {X : Type 0} {S : Source X} {plan : Pipeline} {workers : ℕ} {order : 
     later-start : (g .pipe l ≡ 0 → ⊥) → Move S plan workers order z st g l (start S (whole plan workers st) l)
     unfolding start startLater
     later-start m =
-        let slot : getD (st .slots) l idle ≡ waits (g .pipe l) (getD order (g .place l) 0) (g .place l) =
+        let slot : slotAt (st .slots) l ≡ waits (g .pipe l) (getD order (g .place l) 0) (g .place l) =
         inv .slotted .used l i ∙ shown-waits order (st .stopped) g l m b in
         starts (record {
           counters = set (st .counters) (16 * l + g .pipe l) (full (serialAt plan (g .pipe l)));
-          slots = set (st .slots) l (runs (g .pipe l) (getD order (g .place l) 0) (g .place l));
+          slots = putSlot (st .slots) l (runs (g .pipe l) (getD order (g .place l) 0) (g .place l));
           placed = st .placed;
           stopped = st .stopped;
           source = st .source;
@@ -197,7 +197,7 @@ module _ {X : Type 0} {S : Source X} {plan : Pipeline} {workers : ℕ} {order : 
         })
 
     module _ (e : g .pipe l ≡ 0) where
-      slot-idle : getD (st .slots) l idle ≡ idle
+      slot-idle : slotAt (st .slots) l ≡ idle
       slot-idle = inv .slotted .used l i ∙ shown-idle order (st .stopped) g l e b
 
       place-next : g .place l ≡ g .passed 0
@@ -241,7 +241,7 @@ module _ {X : Type 0} {S : Source X} {plan : Pipeline} {workers : ℕ} {order : 
           | gives y x h t o q v ↦
               enters (record {
                 counters = set (st .counters) (16 * l + 0) (full (serialAt plan 0));
-                slots = set (st .slots) l (runs 0 (getD order (g .place l) 0) (g .place l));
+                slots = putSlot (st .slots) l (runs 0 (getD order (g .place l) 0) (g .place l));
                 placed = suc (st .placed);
                 stopped = st .stopped;
                 source = y;

@@ -6,13 +6,14 @@ use Prim.Native.Nat.{ℕ, _+_, _≤_}
 use native.Mathlib.Nat.{mod-eq-of-lt}
 use native.Mathlib.Omega.{arith}
 use lib.Dec.{eqb}
-use lib.ListN.{getD, replicate, length-replicate, getD-replicate, List·getD-eq-default}
+use lib.ListN.{List·getD-eq-default}
 use borrow.Author.Tests.{ne-eqb, le-ltb}
-use Rattle.rules.specs.RunState.{Pipeline, idle, full}
+use Rattle.rules.specs.RunState.{Pipeline, allIdle, full}
 use Rattle.rules.specs.Sources.{Source, Writes}
 use Rattle.rules.specs.Choices.{openedCounter, tabled}
 use Rattle.rules.specs.WholeRuns.{PipelineInRange}
 use Rattle.rules.proofs.lists.Tests.{same, other, sameAs, lower, upper, below, holds, fails, see, never}
+use Rattle.rules.proofs.lists.SlotRows.{sized-idle, each-idle}
 use Rattle.rules.proofs.standing.Standing.{Standing, Good, serialAt, waiting, turn, toStart, toFinish, reached}
 use Rattle.rules.proofs.invariant.Counters.{length-tabled, tabled-used, tabled-unused}
 use Rattle.rules.proofs.invariant.Invariant.{State, free, Tallied, Inv}
@@ -26,18 +27,11 @@ at-opening = record { pipe = λ l. 0; busy = λ l. false; place = λ l. l; passe
 abbrev pub opening : {X : Type 0} → Pipeline → X → State X
 opening plan x = record {
   counters = tabled plan (λ l p. openedCounter l p (serialAt plan p));
-  slots = replicate 32 idle;
+  slots = allIdle;
   placed = 0;
   stopped = false;
   source = x;
 }
-
--- a list of idle slots has an idle slot everywhere
-pub all-idle : (n i : ℕ) → getD (replicate n idle) i idle ≡ idle
-all-idle n i = elim (below i n) [
-  | lower h t ↦ getD-replicate n i idle idle h
-  | upper h t ↦ List·getD-eq-default (replicate n idle) idle (rw (length-replicate n idle) h)
-]
 
 module _ {plan : Pipeline} (ranged : PipelineInRange plan) where
   -- each line starts and finishes next its own number
@@ -88,9 +82,9 @@ module _ {plan : Pipeline} (ranged : PipelineInRange plan) where
     good = opening-good;
     tally = opening-tally;
     slotted = record {
-      size = length-replicate 32 idle;
-      used = λ l h. all-idle 32 l ∙ sym (shown-idle order false at-opening l refl refl);
-      spare = λ l h. all-idle 32 l;
+      size = sized-idle;
+      used = λ l h. each-idle l ∙ sym (shown-idle order false at-opening l refl refl);
+      spare = λ l h. each-idle l;
     };
     feed = free refl refl (λ l f. never (sym (f .runs))) (omega arith) writes;
   }

@@ -7,7 +7,7 @@ use native.Mathlib.Omega.{arith}
 use lib.ListN.{getD}
 use borrow.Author.Tests.{lt-ltb, le-ltb}
 use Rattle.rules.specs.declared.Slot.{Slot}
-use Rattle.rules.specs.RunState.{Pipeline, Machine, idle, slotOf, counterOf}
+use Rattle.rules.specs.RunState.{Pipeline, Machine, slotAt, slotOf, counterOf}
 use Rattle.rules.specs.Choices.{Chosen, refuse}
 use Rattle.rules.specs.Sources.{Source}
 use Rattle.rules.specs.Ranges.{sound}
@@ -66,19 +66,19 @@ module _ {X : Type 0} {S : Source X} {plan : Pipeline} {workers : ℕ} {order : 
 
   module _ (l : ℕ) (i : l < plan .lines) where
     -- the pipe that a line's slot says
-    pub slot-pipe : getD (st .slots) l idle .pipe .0 ≡ g .pipe l
+    pub slot-pipe : slotAt (st .slots) l .pipe .0 ≡ g .pipe l
     slot-pipe = ap (λ (s : Slot). s .pipe .0) (inv .slotted .used l i) ∙ shown-pipe order (st .stopped) g l
 
     -- a line that is not busy does not run
-    pub slot-rests : g .busy l ≡ false → getD (st .slots) l idle .running ≡ false
+    pub slot-rests : g .busy l ≡ false → slotAt (st .slots) l .running ≡ false
     slot-rests b = ap (λ (s : Slot). s .running) (inv .slotted .used l i) ∙ shown-rests order (st .stopped) g l b
 
     -- a busy line runs
-    pub slot-runs : g .busy l ≡ true → (st .stopped ≡ true → g .pipe l ≡ 0 → ⊥) → getD (st .slots) l idle .running ≡ true
+    pub slot-runs : g .busy l ≡ true → (st .stopped ≡ true → g .pipe l ≡ 0 → ⊥) → slotAt (st .slots) l .running ≡ true
     slot-runs b n = ap (λ (s : Slot). s .running) (inv .slotted .used l i ∙ shown-runs order (st .stopped) g l n b)
 
     -- unless it has stopped
-    pub slot-stopped : g .busy l ≡ true → st .stopped ≡ true → g .pipe l ≡ 0 → getD (st .slots) l idle .running ≡ false
+    pub slot-stopped : g .busy l ≡ true → st .stopped ≡ true → g .pipe l ≡ 0 → slotAt (st .slots) l .running ≡ false
     slot-stopped b s e = ap (λ (s : Slot). s .running) (inv .slotted .used l i ∙ shown-stopped order (st .stopped) g l e b s)
 
     -- the counter of a line that is busy is full

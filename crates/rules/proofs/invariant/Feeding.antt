@@ -6,6 +6,7 @@ use Prim.Native.Nat.{ℕ, suc, _≤_, _<_}
 use native.Mathlib.Omega.{arith}
 use lib.ListN.{length, getD, drop, length-drop}
 use lib.Seq.{drop-cons}
+use Rattle.rules.specs.declared.Slots.{Slots}
 use Rattle.rules.specs.RunState.{Pipeline}
 use Rattle.rules.specs.Sources.{Source, Writes, close, write, Nothing, Took, Passed}
 use Rattle.rules.specs.WholeRuns.{PipelineInRange}
@@ -34,7 +35,7 @@ module _ {X : Type 0} (S : Source X) (order : List ℕ) (z : X) where
 
 module _ {X : Type 0} {S : Source X} {plan : Pipeline} (ranged : PipelineInRange plan) {order : List ℕ} {z : X} {st : State X} {g : Standing} (l : ℕ) where
   -- a line that waits past pipe 0 starts: the source has no part in it
-  pub begin-feed : (counters : List ℕ) (slots : List _) → g .busy l ≡ false → (g .pipe l ≡ 0 → ⊥) → Feed S plan order z st g →
+  pub begin-feed : (counters : List ℕ) (slots : Slots) → g .busy l ≡ false → (g .pipe l ≡ 0 → ⊥) → Feed S plan order z st g →
       Feed S plan order z (record { counters = counters; slots = slots; placed = st .placed; stopped = st .stopped; source = st .source }) (begin g l)
   unfolding begin
   begin-feed cs ss b n feed = elim feed [
@@ -54,7 +55,7 @@ module _ {X : Type 0} {S : Source X} {plan : Pipeline} (ranged : PipelineInRange
       }
 
   -- a line that runs past pipe 0 finishes: the source has no part in it
-  pub finish-feed : (counters : List ℕ) (slots : List _) → g .busy l ≡ true → (g .pipe l ≡ 0 → ⊥) → Feed S plan order z st g →
+  pub finish-feed : (counters : List ℕ) (slots : Slots) → g .busy l ≡ true → (g .pipe l ≡ 0 → ⊥) → Feed S plan order z st g →
       Feed S plan order z (record { counters = counters; slots = slots; placed = st .placed; stopped = st .stopped; source = st .source }) (finish plan g l)
   finish-feed cs ss b n feed =
       let p0 : finish plan g l .passed 0 ≡ g .passed 0 = finish-passed-else ranged g l b 0 (λ e. n (sym e)) in

@@ -7,12 +7,14 @@ use native.Mathlib.Omega.{arith}
 use lib.Dec.{eqb}
 use lib.ListN.{length, getD, drop}
 use Rattle.rules.specs.declared.Slot.{Slot}
+use Rattle.rules.specs.declared.Slots.{Slots}
 use Rattle.rules.specs.Lists.{if}
-use Rattle.rules.specs.RunState.{Pipeline, Machine, idle, runs, full}
+use Rattle.rules.specs.RunState.{Pipeline, Machine, idle, runs, slotAt, full}
 use Rattle.rules.specs.Sources.{Source, Writes, close, write, Passed}
 use Rattle.rules.specs.Ranges.{sound}
 use Rattle.rules.specs.Lists.{within}
 use Rattle.rules.specs.WholeRuns.{PipelineInRange, WorkersInRange}
+use Rattle.rules.proofs.lists.SlotRows.{Sized}
 use Rattle.rules.proofs.standing.Standing.{finish-past, Standing, serialAt, Good, waiting, turn}
 
 -- a plan, a number of workers and an order within their ranges
@@ -25,7 +27,7 @@ pub record Allowed (plan : Pipeline) (workers : ℕ) (order : List ℕ) : Type 0
 -- what a choice may change of the machine
 pub record State (X : Type 0) : Type 0 where
   pub counters : List ℕ
-  pub slots : List Slot
+  pub slots : Slots
   pub placed : ℕ
   pub stopped : Bool
   pub source : X
@@ -72,10 +74,10 @@ pub record Tallied (plan : Pipeline) (counters : List ℕ) (g : Standing) : Type
   pub unused : (l p : ℕ) → p < 16 → (l < plan .lines → p < plan .pipes → ⊥) → getD counters (16 * l + p) 0 ≡ 0
 
 -- the slots say how the run stands
-pub record Slotted (plan : Pipeline) (order : List ℕ) (slots : List Slot) (stopped : Bool) (g : Standing) : Type 0 where
-  pub size : length slots ≡ 32
-  pub used : (l : ℕ) → l < plan .lines → getD slots l idle ≡ shown order stopped g l
-  pub spare : (l : ℕ) → plan .lines ≤ l → getD slots l idle ≡ idle
+pub record Slotted (plan : Pipeline) (order : List ℕ) (slots : Slots) (stopped : Bool) (g : Standing) : Type 0 where
+  pub size : Sized slots
+  pub used : (l : ℕ) → l < plan .lines → slotAt slots l ≡ shown order stopped g l
+  pub spare : (l : ℕ) → plan .lines ≤ l → slotAt slots l ≡ idle
 
 module _ {X : Type 0} (S : Source X) (plan : Pipeline) (order : List ℕ) (z : X) where
   -- what the source has still to give: nobody runs pipe 0; a line runs it with the last token placed; or the source has closed

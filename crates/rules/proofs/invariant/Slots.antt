@@ -5,14 +5,15 @@ use mathlib.Core.List.{List}
 use Prim.Native.Nat.{ℕ, suc, _≤_, _<_}
 use native.Mathlib.Omega.{arith}
 use lib.Dec.{eqb}
-use lib.ListN.{length, getD, set, length-set}
-use lib.Seq.{getD-set-same, getD-set-other}
+use lib.ListN.{getD}
 use borrow.Author.Tests.{eq-eqb, ne-eqb}
 use Rattle.rules.specs.declared.Slot.{Slot}
-use Rattle.rules.specs.RunState.{Pipeline, idle, runs, waits}
+use Rattle.rules.specs.declared.Slots.{Slots}
+use Rattle.rules.specs.RunState.{Pipeline, idle, runs, waits, putSlot}
 use Rattle.rules.specs.Choices.{moved}
 use Rattle.rules.specs.WholeRuns.{PipelineInRange}
 use Rattle.rules.proofs.lists.Tests.{same, other, sameAs, holds, fails, see}
+use Rattle.rules.proofs.lists.SlotRows.{sized-put, put-same, put-other}
 use Rattle.rules.proofs.standing.Standing.{Standing, begin, finish}
 use Rattle.rules.proofs.standing.Begin.{begin-busy, begin-busy-else}
 use Rattle.rules.proofs.standing.Finish.{finish-pipe, finish-busy, finish-place, finish-pipe-else, finish-busy-else, finish-place-else}
@@ -69,26 +70,25 @@ pub shown-past : (order : List ℕ) (a b : Bool) (g : Standing) (l : ℕ) → (g
 unfolding shown
 shown-past order a b g l n = rw (ne-eqb (g .pipe l) 0 n)
 
-module _ {plan : Pipeline} (ranged : PipelineInRange plan) {order : List ℕ} {slots : List Slot} {stopped : Bool} {g : Standing}
+module _ {plan : Pipeline} (ranged : PipelineInRange plan) {order : List ℕ} {slots : Slots} {stopped : Bool} {g : Standing}
     (slotted : Slotted plan order slots stopped g) (l : ℕ) (i : l < plan .lines) where
   -- the slots with that of one line put anew
   one-slot : (s : Bool) (h : Standing) (v : Slot) → v ≡ shown order s h l →
-      ((j : ℕ) → j < plan .lines → (j ≡ l → ⊥) → shown order stopped g j ≡ shown order s h j) → Slotted plan order (set slots l v) s h
+      ((j : ℕ) → j < plan .lines → (j ≡ l → ⊥) → shown order stopped g j ≡ shown order s h j) → Slotted plan order (putSlot slots l v) s h
   one-slot s h v here else =
       let r : plan .lines ≤ 32 = ranged .lines-most in
-      let z : length slots ≡ 32 = slotted .size in
       record {
-        size = length-set slots l v ∙ slotted .size;
+        size = sized-put slots l v (slotted .size);
         used = λ j a. elim (sameAs j l) [
-          | same e t ↦ rw (e, getD-set-same slots l v idle (omega arith)) here
-          | other n t ↦ rw (getD-set-other slots l j v idle n) (slotted .used j a ∙ else j a n)
+          | same e t ↦ rw (e, put-same slots l v (slotted .size) (omega arith)) here
+          | other n t ↦ rw (put-other slots l v j n) (slotted .used j a ∙ else j a n)
         ];
-        spare = λ j a. getD-set-other slots l j v idle (omega arith) ∙ slotted .spare j a;
+        spare = λ j a. put-other slots l v j (omega arith) ∙ slotted .spare j a;
       }
 
   -- the slots after a start
   pub begin-slotted : g .busy l ≡ false → (stopped ≡ true → g .pipe l ≡ 0 → ⊥) →
-      Slotted plan order (set slots l (runs (g .pipe l) (tokenOf order stopped g l) (g .place l))) stopped (begin g l)
+      Slotted plan order (putSlot slots l (runs (g .pipe l) (tokenOf order stopped g l) (g .place l))) stopped (begin g l)
   unfolding begin
   begin-slotted b n = one-slot stopped (begin g l) _ (sym (shown-runs order stopped (begin g l) l n (begin-busy ranged g l b)))
       (λ j a m. sym (shown-same order stopped g j (begin g l) refl (begin-busy-else ranged g l b j m) refl))
@@ -113,7 +113,7 @@ module _ {plan : Pipeline} (ranged : PipelineInRange plan) {order : List ℕ} {s
 
   -- the slots after a finish
   pub finish-slotted : g .busy l ≡ true →
-      Slotted plan order (set slots l (moved (plan .pipes) (runs (g .pipe l) (tokenOf order stopped g l) (g .place l)))) stopped (finish plan g l)
+      Slotted plan order (putSlot slots l (moved (plan .pipes) (runs (g .pipe l) (tokenOf order stopped g l) (g .place l)))) stopped (finish plan g l)
   finish-slotted b = one-slot stopped (finish plan g l) _
       (elim (sameAs (suc (g .pipe l)) (plan .pipes)) [
         | same e t ↦ rw t (sym (shown-idle order stopped (finish plan g l) l (finish-pipe ranged g l b ∙ rw t) (finish-busy ranged g l b)))

@@ -4,13 +4,14 @@ use mathlib.Core.Bool.{Bool, true, false}
 use mathlib.Core.List.{List}
 use Prim.Native.Nat.{ℕ, zero, suc, _+_, _*_, _/_, _%_, _≤_, _<_}
 use native.Mathlib.Omega.{arith}
+use lib.Dec.{ltb}
 use lib.ListN.{length, getD}
 use borrow.Author.Tests.{le-leb, lt-ltb}
 use Rattle.rules.specs.Lists.{if, every}
 use Rattle.rules.specs.declared.Slot.{Slot}
-use Rattle.rules.specs.RunState.{Pipeline, idle}
+use Rattle.rules.specs.RunState.{Pipeline, idle, slotAt}
 use Rattle.rules.specs.Sources.{Source}
-use Rattle.rules.specs.Ranges.{sound, numbersSound, isIdle, slotInRange, slotSound, mostAt, counterSound, serialSound}
+use Rattle.rules.specs.Ranges.{sound, numbersSound, isIdle, isLoaded, slotSound, mostAt, counterSound, serialSound}
 use Rattle.rules.specs.Lists.{within}
 use Rattle.rules.proofs.lists.Tests.{same, other, sameAs, lower, upper, below, holds, fails, see, never}
 use Rattle.rules.proofs.standing.Standing.{Standing, serialAt}
@@ -42,7 +43,7 @@ module _ {X : Type 0} {S : Source X} {plan : Pipeline} {workers : ℕ} {order : 
     | closed i o a b c d e ↦ absurd (never (sym a ∙ s))
   ]
 
-  idle-sound : (l : ℕ) → getD (st .slots) l idle ≡ idle → slotSound (plan .pipes) (plan .lines) (plan .tokens) (st .slots) l ≡ true
+  idle-sound : (l : ℕ) → slotAt (st .slots) l ≡ idle → slotSound (plan .pipes) (plan .lines) (plan .tokens) (st .slots) l ≡ true
   unfolding slotSound isIdle
   idle-sound l e = rw e
 
@@ -50,16 +51,17 @@ module _ {X : Type 0} {S : Source X} {plan : Pipeline} {workers : ℕ} {order : 
   abbrev held : ℕ → Bool → Slot
   held l r = record { pipe = record { 0 = g .pipe l }; running = r; token = record { 0 = tokenOf order (st .stopped) g l }; place = record { 0 = g .place l } }
 
-  loaded-sound : (l : ℕ) (r : Bool) → l < plan .lines → g .place l < length order →
-      getD (st .slots) l idle ≡ held l r → slotSound (plan .pipes) (plan .lines) (plan .tokens) (st .slots) l ≡ true
-  unfolding slotSound slotInRange
-  loaded-sound l r h k e =
+  loaded-sound : (l : ℕ) (r : Bool) → l < plan .lines → if r true (ltb 0 (g .pipe l)) ≡ true → g .place l < length order →
+      slotAt (st .slots) l ≡ held l r → slotSound (plan .pipes) (plan .lines) (plan .tokens) (st .slots) l ≡ true
+  unfolding slotSound isLoaded
+  loaded-sound l r h busy k e =
       let f : length order ≤ plan .tokens = ok .fits in
       rw e (elim (see (isIdle (held l r))) [
         | holds i ↦ rw i
         | fails i ↦ rw (
           i,
           lt-ltb l (plan .lines) h,
+          busy,
           lt-ltb (g .pipe l) (plan .pipes) (inv .good .at l h),
           lt-ltb (tokenOf order (st .stopped) g l) (plan .tokens) (ok .known (g .place l) k),
           lt-ltb (g .place l) (plan .tokens) (omega arith),
@@ -71,16 +73,16 @@ module _ {X : Type 0} {S : Source X} {plan : Pipeline} {workers : ℕ} {order : 
     | upper h t ↦ idle-sound l (inv .slotted .spare l h)
     | lower h t ↦ elim (sameAs (g .pipe l) 0) [
       | other n t ↦ elim (see (g .busy l)) [
-        | fails b ↦ loaded-sound l false h (carried (ok .ranged) inv l h n)
+        | fails b ↦ loaded-sound l false h (lt-ltb 0 (g .pipe l) (omega arith)) (carried (ok .ranged) inv l h n)
             (inv .slotted .used l h ∙ shown-waits order (st .stopped) g l n b)
-        | holds b ↦ loaded-sound l true h (carried (ok .ranged) inv l h n)
+        | holds b ↦ loaded-sound l true h refl (carried (ok .ranged) inv l h n)
             (inv .slotted .used l h ∙ shown-runs order (st .stopped) g l (λ s e. n e) b)
       ]
       | same e t ↦ elim (see (g .busy l)) [
         | fails b ↦ idle-sound l (inv .slotted .used l h ∙ shown-idle order (st .stopped) g l e b)
         | holds b ↦ elim (see (st .stopped)) [
           | holds s ↦ idle-sound l (inv .slotted .used l h ∙ shown-stopped order (st .stopped) g l e b s)
-          | fails s ↦ loaded-sound l true h (first-place l (record { within = h; first = e; runs = b }) s)
+          | fails s ↦ loaded-sound l true h refl (first-place l (record { within = h; first = e; runs = b }) s)
               (inv .slotted .used l h ∙ shown-runs order (st .stopped) g l (λ a f. never (sym a ∙ s)) b)
         ]
       ]

@@ -5,10 +5,10 @@ use mathlib.Core.List.{List}
 use Prim.Native.Nat.{ℕ, _+_, _*_, _/_, _%_, _≤_, _<_}
 use native.Mathlib.Nat.{mod-lt}
 use native.Mathlib.Omega.{arith}
-use lib.ListN.{length, getD, replicate, length-replicate}
+use lib.ListN.{length, getD}
 use lib.Seq.{ext-getD}
 use borrow.Author.Tests.{le-ltb}
-use Rattle.rules.specs.RunState.{Pipeline, full, idle}
+use Rattle.rules.specs.RunState.{Pipeline, idle, slotAt, allIdle, full}
 use Rattle.rules.specs.Sources.{Source}
 use Rattle.rules.specs.Choices.{tabled}
 use Rattle.rules.specs.WholeRuns.{endedCounter, final}
@@ -20,7 +20,7 @@ use Rattle.rules.proofs.standing.Begin.{waiting-here, waiting-else, wai
 use Rattle.rules.proofs.invariant.Counters.{length-tabled, tabled-used, tabled-unused}
 use Rattle.rules.proofs.invariant.Invariant.{Allowed, State, whole, Inv, first-held}
 use Rattle.rules.proofs.invariant.Slots.{shown-idle, shown-stopped}
-use Rattle.rules.proofs.choices.Opening.{all-idle}
+use Rattle.rules.proofs.lists.SlotRows.{sized-idle, each-idle, same-slots}
 use Rattle.rules.proofs.choices.Steps.{busy-full}
 use Rattle.rules.proofs.runs.Ending.{Over, over-busy}
 
@@ -146,10 +146,10 @@ module _ {X : Type 0} {S : Source X} {plan : Pipeline} {workers : ℕ} {order : 
       (λ k h. let e : 16 * (k / 16) + k % 16 ≡ k = omega arith in
       rw e at (final-entry (k / 16) (k % 16) (omega (arith, inv .tally .size)) (omega arith)))
 
-  final-slots : st .slots ≡ replicate 32 idle
-  final-slots = ext-getD idle (st .slots) (replicate 32 idle) (inv .slotted .size ∙ sym (length-replicate 32 idle)) (λ k h. final-slot k ∙ sym (all-idle 32 k))
+  final-slots : st .slots ≡ allIdle
+  final-slots = same-slots (inv .slotted .size) sized-idle (λ k. final-slot k ∙ sym (each-idle k))
     where
-      final-slot : (k : ℕ) → getD (st .slots) k idle ≡ idle
+      final-slot : (k : ℕ) → slotAt (st .slots) k ≡ idle
       final-slot k = elim (below k (plan .lines)) [
         | upper h t ↦ inv .slotted .spare k h
         | lower h t ↦ inv .slotted .used k h ∙ elim (see (g .busy k)) [

@@ -5,8 +5,8 @@ use mathlib.Core.List.{List}
 use Prim.Native.Nat.{ℕ, zero, suc, _+_, _*_, _<_}
 use native.Mathlib.Omega.{arith}
 use lib.ListN.{getD}
-use Rattle.rules.specs.declared.Slot.{Slot}
-use Rattle.rules.specs.RunState.{Pipeline, idle}
+use Rattle.rules.specs.declared.Slots.{Slots}
+use Rattle.rules.specs.RunState.{Pipeline, slotAt}
 use Rattle.rules.specs.Choices.{Chosen, ended, runningBelow, choose}
 use Rattle.rules.specs.Sources.{Source}
 use Rattle.rules.specs.WholeRuns.{Accepted}
@@ -29,16 +29,16 @@ move-accepted {S = S} {plan} {workers} {order} {z} m n e = elim m [
 ]
 
 -- where some line runs, one can be named
-pub one-runs : (slots : List Slot) (n : ℕ) → 0 < runningBelow slots n → (l : ℕ) × (l < n) × (getD slots l idle .running ≡ true)
+pub one-runs : (slots : Slots) (n : ℕ) → 0 < runningBelow slots n → (l : ℕ) × (l < n) × (slotAt slots l .running ≡ true)
 unfolding runningBelow
 one-runs slots zero h = absurd (omega arith)
-one-runs slots (suc n) h = elim (see (getD slots n idle .running)) [
+one-runs slots (suc n) h = elim (see (slotAt slots n .running)) [
   | holds r ↦ (n, omega arith, r)
   | fails r ↦ let q = one-runs slots n (omega (arith, rw r at h)) in (q .0, omega (arith, q .1), q .2)
 ]
 
 -- where no line runs, none is counted
-pub none-runs : (slots : List Slot) (n : ℕ) → ((l : ℕ) → l < n → getD slots l idle .running ≡ false) → runningBelow slots n ≡ 0
+pub none-runs : (slots : Slots) (n : ℕ) → ((l : ℕ) → l < n → slotAt slots l .running ≡ false) → runningBelow slots n ≡ 0
 unfolding runningBelow
 none-runs slots zero h = refl
 none-runs slots (suc n) h = rw (h n (omega arith), none-runs slots n (λ l k. h l (omega arith)))
@@ -46,7 +46,7 @@ none-runs slots (suc n) h = rw (h n (omega arith), none-runs slots n (λ l k. h 
 module _ {X : Type 0} {S : Source X} {plan : Pipeline} {workers : ℕ} {order : List ℕ} {z : X} (ok : Allowed plan workers order)
     {st : State X} {g : Standing} (inv : Inv S plan order z st g) (e : ended (whole plan workers st) ≡ false) where
   -- a line that runs can finish
-  running-moves : (l : ℕ) → l < plan .lines → getD (st .slots) l idle .running ≡ true → Move S plan workers order z st g l (choose S (whole plan workers st) l)
+  running-moves : (l : ℕ) → l < plan .lines → slotAt (st .slots) l .running ≡ true → Move S plan workers order z st g l (choose S (whole plan workers st) l)
   running-moves l h r = elim (see (g .busy l)) [
     | fails b ↦ absurd (never (sym r ∙ slot-rests ok inv l h b))
     | holds b ↦ runs-move ok inv l h e b
@@ -54,7 +54,7 @@ module _ {X : Type 0} {S : Source X} {plan : Pipeline} {workers : ℕ} {order : 
   ]
 
   -- a line that waits with counter 0 can start, if a worker is free
-  due-moves : (l : ℕ) → l < plan .lines → getD (st .slots) l idle .running ≡ false → getD (st .counters) (16 * l + getD (st .slots) l idle .pipe .0) 0 ≡ 0 →
+  due-moves : (l : ℕ) → l < plan .lines → slotAt (st .slots) l .running ≡ false → getD (st .counters) (16 * l + slotAt (st .slots) l .pipe .0) 0 ≡ 0 →
       runningBelow (st .slots) (plan .lines) < workers → Move S plan workers order z st g l (choose S (whole plan workers st) l)
   due-moves l h r c w =
       let c′ : getD (st .counters) (16 * l + g .pipe l) 0 ≡ 0 = rw (slot-pipe ok inv l h) at c in

@@ -8,12 +8,23 @@ use borrow.Author.Tests.{lt-ltb, le-ltb}
 use lib.Dec.{leb}
 use lib.ListN.{getD, replicate, getD-replicate}
 use Rattle.rules.specs.Lists.{if, every, table}
-use Rattle.rules.specs.RunState.{counterAt}
+use Rattle.rules.specs.RunState.{counterAt, full}
 use Rattle.rules.specs.Ranges.{mostAt, counterSound}
 use Rattle.rules.proofs.lists.ListTables.{getD-table}
-use Rattle.state.specs.RangeParts.{highestRow, rowWithin}
+use Rattle.state.specs.RangeParts.{smaller, pipeRow, highestRow, rowWithin}
 use Rattle.state.proofs.in_range.Rows.{every-same, every-rows, every-parts, from-none}
+use Rattle.rules.proofs.lists.Tests.{by-test, lower, upper, below}
+use Rattle.state.proofs.in_range.FlagLaws.{getD-pipes}
 use Rattle.state.proofs.in_range.Highest.{within-each}
+
+-- the most at a pipe, by the row of pipes and the full value
+pub most-is : (pipes : ℕ) (serial : List Bool) (p : ℕ) → p < 16 →
+    smaller (getD (pipeRow pipes) p 0) (full (getD serial p false)) ≡ mostAt pipes 1 serial 0 p
+unfolding smaller mostAt
+most-is pipes serial p h = elim (below p pipes) [
+  | lower k t ↦ rw (getD-pipes pipes p h, t) (by-test (getD serial p false) (λ e. rw e) (λ e. rw e))
+  | upper k t ↦ rw (getD-pipes pipes p h, t) (by-test (getD serial p false) (λ e. rw e) (λ e. rw e))
+]
 
 module _ (pipes lines : ℕ) (serial : List Bool) where
   -- the most of a line of the plan, and of any other

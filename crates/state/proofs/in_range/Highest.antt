@@ -6,8 +6,8 @@ use mathlib.Core.List.{List}
 use Prim.Native.Nat.{ℕ, zero, suc, _+_, _-_, _<_, _≤_}
 use native.Mathlib.Omega.{arith}
 use native.Mathlib.Numerals.{add-one}
-use borrow.Author.Tests.{le-leb, lt-ltb, leb-true, ltb-true}
-use lib.Dec.{leb, ltb}
+use borrow.Author.Tests.{le-leb, lt-ltb, eq-eqb, leb-true, ltb-true, eqb-true}
+use lib.Dec.{leb, ltb, eqb}
 use lib.ListN.{length, getD, replicate, length-replicate, getD-replicate}
 use lib.Seq.{ext-getD}
 use Rattle.rules.specs.Lists.{if, every}
@@ -32,6 +32,9 @@ larger-leb m = larger-test (λ n. leb n m) (λ a b h e. let most : b ≤ m = leb
 pub larger-ltb : (m a b : ℕ) → ltb (larger a b) m ≡ if (ltb a m) (ltb b m) false
 larger-ltb m = larger-test (λ n. ltb n m) (λ a b h e. let less : b < m = ltb-true b m e in lt-ltb a m (omega arith))
 
+pub larger-none : (a b : ℕ) → eqb (larger a b) 0 ≡ if (eqb a 0) (eqb b 0) false
+larger-none = larger-test (λ n. eqb n 0) (λ a b h e. let none : b ≡ 0 = eqb-true b 0 e in eq-eqb a 0 (omega arith))
+
 -- and one of the highest is one of all
 pub highest-test : (test : ℕ → Bool) → test 0 ≡ true → ((a b : ℕ) → test (larger a b) ≡ if (test a) (test b) false) →
     (n : ℕ) (f : ℕ → ℕ) → test (highest n f) ≡ every n (λ i. test (f i))
@@ -49,9 +52,6 @@ highest-none f = refl
 pub highest-more : (n : ℕ) (f : ℕ → ℕ) → highest (n + 1) f ≡ larger (highest n f) (f n)
 unfolding highest
 highest-more n f = rw add-one
-
-pub highest-step : (n : ℕ) (f : ℕ → ℕ) {high one : ℕ} → high ≡ highest n f → one ≡ f n → larger high one ≡ highest (n + 1) f
-highest-step n f h e = rw (h, e) (sym (highest-more n f))
 
 -- a row with one line more: its size, and what it holds
 module _ (counters row : List ℕ) (l : ℕ) where

@@ -1,13 +1,14 @@
 -- Tests of the numbers below a bound: without a way out on the way, from a number on, in two parts, and row by row.
 use mathlib.Core.Path.{_≡_, refl, sym, ap, subst, _∙_}
 use mathlib.Core.Bool.{Bool, true, false}
+use mathlib.Core.Logic.{by-cases}
 use Prim.Native.Nat.{ℕ, zero, suc, _+_, _-_, _*_, _<_, _≤_}
 use native.Mathlib.Omega.{arith}
 use native.Mathlib.Numerals.{add-one}
+use native.Mathlib.Decide.{ℕ-discrete}
 use native.Mathlib.Nat.{mul-zero, mul-suc}
 use Rattle.rules.specs.Lists.{if, every}
 use Rattle.state.specs.RangeParts.{everyFrom}
-use Rattle.rules.proofs.lists.EveryBelow.{every-none}
 use Rattle.rules.proofs.lists.Tests.{if-eta, if-same}
 
 -- of two tests that hold, each
@@ -36,6 +37,14 @@ unfolding every
 every-same zero f g e = refl
 every-same (suc n) f g e = rw (e n (omega arith), every-same n f g (λ i h. e i (omega arith)))
 
+-- a test of each number below n holds of one of them
+pub every-at : (n i : ℕ) (f : ℕ → Bool) → i < n → every n f ≡ true → f i ≡ true
+unfolding every
+every-at zero i f h e = absurd (omega arith)
+every-at (suc n) i f h e = by-cases (ℕ-discrete i n)
+    (λ i-is. ap f i-is ∙ first-holds (f n) _ e)
+    (λ less. every-at n i f (omega arith) (rest-hold (f n) _ e))
+
 -- two tests of each number, and a test of each pair, may be asked in either order
 swap-inner : (a b c d : Bool) → if (if a b false) (if c d false) false ≡ if (if a c false) (if b d false) false
 swap-inner true true c d = refl
@@ -61,13 +70,9 @@ exchange m (suc n) g =
 
 module _ (f : ℕ → Bool) where
   -- the answer so far, after one number more
-  pub every-kept : (i : ℕ) {ok : Bool} → ok ≡ every i f → f i ≡ true → ok ≡ every (i + 1) f
+  pub every-next : (i : ℕ) {ok now : Bool} → ok ≡ every i f → now ≡ f i → if now ok false ≡ every (i + 1) f
   unfolding every
-  every-kept i h e = rw (add-one, e) h
-
-  pub every-lost : (i : ℕ) → f i ≡ false → false ≡ every (i + 1) f
-  unfolding every
-  every-lost i e = rw (add-one, e)
+  every-next i h e = rw (add-one, h, e)
 
   pub every-all : (n i : ℕ) {ok : Bool} → i ≤ n → n ≤ i → ok ≡ every i f → ok ≡ every n f
   every-all n i {ok} a b h = let i-is : i ≡ n = omega arith in subst (λ j. ok ≡ every j f) i-is h
@@ -103,24 +108,3 @@ module _ (f : ℕ → Bool) where
       let parts : n ≡ a + (n - a) = omega arith in
       ap (λ m. every m f) parts ∙ split a (n - a) ∙
       rw (every-same a f g first, every-same (n - a) (λ i. f (a + i)) (λ i. h (a + i)) (λ i k. later (a + i) (omega arith)))
-
--- from a number on
-module _ (f : ℕ → Bool) (from : ℕ) where
-  abbrev later : ℕ → Bool
-  later i = f (from + i)
-
-  later-is : (i : ℕ) → from ≤ i → {v : Bool} → f i ≡ v → later (i - from) ≡ v
-  later-is i h e = let i-is : from + (i - from) ≡ i = omega arith in ap f i-is ∙ e
-
-  pub from-empty : (i : ℕ) → i ≤ from → true ≡ everyFrom from i f
-  unfolding everyFrom
-  from-empty i h = let no : i - from ≡ 0 = omega arith in rw no (sym (every-none later))
-
-  -- the answer so far, after one number more
-  pub from-kept : (i : ℕ) {ok : Bool} → from ≤ i → ok ≡ everyFrom from i f → f i ≡ true → ok ≡ everyFrom from (i + 1) f
-  unfolding everyFrom
-  from-kept i h k e = let one : i + 1 - from ≡ i - from + 1 = omega arith in rw one (every-kept later (i - from) k (later-is i h e))
-
-  pub from-lost : (i : ℕ) → from ≤ i → f i ≡ false → false ≡ everyFrom from (i + 1) f
-  unfolding everyFrom
-  from-lost i h e = let one : i + 1 - from ≡ i - from + 1 = omega arith in rw one (every-lost later (i - from) (later-is i h e))

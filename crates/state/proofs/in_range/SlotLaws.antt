@@ -1,157 +1,122 @@
--- The slots: what a walk over them finds, and that they are then within their ranges.
-use mathlib.Core.Path.{_≡_, refl, sym, ap, _∙_}
+-- The slots, line by line: whether each is within its range, and how many lines run.
+use mathlib.Core.Path.{_≡_, refl, sym}
 use mathlib.Core.Bool.{Bool, true, false, not, true≢false}
-use mathlib.Core.List.{List, [], _∷_}
+use mathlib.Core.List.{[], _∷_}
 use mathlib.Core.Logic.{by-cases}
 use Prim.Native.Nat.{ℕ, zero, suc, _+_, _<_, _≤_}
 use native.Mathlib.Omega.{arith}
 use native.Mathlib.Numerals.{add-one}
 use native.Mathlib.Decide.{ℕ-discrete}
-use borrow.Author.Tests.{lt-ltb, le-ltb, eqb-true}
+use borrow.Author.Tests.{eqb-true, eq-eqb, lt-ltb, le-ltb}
 use lib.Dec.{ltb, eqb}
-use lib.ListN.{getD}
 use Rattle.rules.specs.Lists.{if, all, every}
 use Rattle.rules.specs.declared.Slot.{Slot}
-use Rattle.rules.specs.RunState.{idle}
+use Rattle.rules.specs.declared.Slots.{Slots}
+use Rattle.rules.specs.RunState.{slotAt}
 use Rattle.rules.specs.Choices.{runningBelow}
-use Rattle.rules.specs.Ranges.{isIdle, slotInRange, slotSound}
-use Rattle.rules.proofs.lists.Tests.{by-test, sameAs, same, other, if-eta, if-same}
-use Rattle.state.specs.RangeParts.{everyFrom, highest, heldOf, tallyOf, fitsOf}
-use Rattle.state.proofs.in_range.Rows.{first-holds, rest-hold, every-same, every-both, every-parts, from-none}
-use Rattle.state.proofs.in_range.Highest.{highest-test, larger-ltb}
-
--- the walk, one slot more
-module _ (slots : List Slot) where
-  pub running-more : (n : ℕ) {many : ℕ} → many ≡ runningBelow slots n → many + if (getD slots n idle .running) 1 0 ≡ runningBelow slots (n + 1)
-  unfolding runningBelow
-  running-more n h = rw (add-one n, h) (omega arith)
-
-  -- a test of each slot
-  abbrev idleAt : ℕ → Bool
-  idleAt l = isIdle (getD slots l idle)
-
-  -- lines that are idle do not run
-  none-runs : (n : ℕ) → every n idleAt ≡ true → runningBelow slots n ≡ 0
-  unfolding every runningBelow isIdle
-  none-runs zero h = refl
-  none-runs (suc n) h = by-test (getD slots n idle .running)
-      (λ e. absurd (true≢false (sym (rw e at h))))
-      (λ e. rw e (omega (arith, none-runs n (rest-hold (idleAt n) _ h))))
-
--- the walk is at its end
-module _ (slots : List Slot) (used line : ℕ) {n m pipe held running : ℕ} {rest : Bool} where
-  pub tally-is : n ≡ used → m ≡ 32 → pipe ≡ highest n (λ l. getD slots l idle .pipe .0) → held ≡ highest n (λ l. heldOf (getD slots l idle)) →
-      running ≡ runningBelow slots n → rest ≡ everyFrom used m (idleAt slots) →
-      record { pipe = pipe; held = held; running = running; rest = rest; slot = getD slots line idle } ≡ tallyOf slots used line
-  unfolding tallyOf
-  tally-is n-is m-is p h r e = rw (p, h, r, e, n-is, m-is)
-
--- a test that holds below n holds below any smaller number
-every-below : (n m : ℕ) (f : ℕ → Bool) → m ≤ n → every n f ≡ true → every m f ≡ true
-unfolding every
-every-below zero m f h e = let m-is : m ≡ 0 = omega arith in rw m-is
-every-below (suc n) m f h e = by-cases (ℕ-discrete m (suc n))
-    (λ m-is. rw m-is e)
-    (λ less. every-below n m f (omega arith) (rest-hold (f n) _ e))
-
--- three tests, two of them together
-three : (a b c : Bool) → if a (if b (if c true false) false) false ≡ if (if a b false) c false
-three true true c = if-eta c
-three true false c = refl
-three false b c = refl
+use Rattle.rules.specs.Ranges.{isIdle, isLoaded, slotSound}
+use Rattle.rules.proofs.lists.Tests.{by-test, lower, upper, below, if-same, pos-eqb}
+use Rattle.state.specs.RangeParts.{larger, tallyOf}
+use Rattle.state.proofs.in_range.Rows.{first-holds, rest-hold}
+use Rattle.state.proofs.in_range.Highest.{larger-ltb, larger-none}
 
 module _ (slot : Slot) where
-  -- an idle slot is all 0
+  -- an idle slot is at pipe 0 and does not run
   pub idle-pipe : isIdle slot ≡ true → slot .pipe .0 ≡ 0
   unfolding isIdle
   idle-pipe e = eqb-true (slot .pipe .0) 0 (first-holds (eqb (slot .pipe .0) 0) _ (rest-hold (not (slot .running)) _ e))
 
-  idle-rest : isIdle slot ≡ true → all (eqb (slot .token .0) 0 ∷ eqb (slot .place .0) 0 ∷ []) ≡ true
+  idle-rests : isIdle slot ≡ true → slot .running ≡ false
   unfolding isIdle
-  idle-rest e = rest-hold (eqb (slot .pipe .0) 0) _ (rest-hold (not (slot .running)) _ e)
+  idle-rests e = by-test (slot .running) (λ r. absurd (true≢false (sym (rw r at e)))) (λ r. r)
 
-  idle-token : isIdle slot ≡ true → slot .token .0 ≡ 0
-  idle-token e = eqb-true (slot .token .0) 0 (first-holds (eqb (slot .token .0) 0) _ (idle-rest e))
+-- the tests of a loaded slot, in another order
+any-order : (used a b c : Bool) →
+    if a (if used (if b c false) false) false ≡ if used (if (if a (if b (if c true false) false) false) true false) false
+any-order true true true true = refl
+any-order true true true false = refl
+any-order true true false c = refl
+any-order true false b c = refl
+any-order false a b c = if-same a false
 
-  idle-place : isIdle slot ≡ true → slot .place .0 ≡ 0
-  idle-place e = eqb-true (slot .place .0) 0 (first-holds (eqb (slot .place .0) 0) _ (rest-hold (eqb (slot .token .0) 0) _ (idle-rest e)))
+-- and those of one that holds nothing
+nothing-held : (used a b : Bool) → if a b false ≡ if (if a (if b true false) false) true (if used false false)
+nothing-held used true true = refl
+nothing-held used true false = sym (if-same used false)
+nothing-held used false b = sym (if-same used false)
 
-  module _ (pipes tokens : ℕ) where
-    -- so it is in range where there are pipes and tokens
-    idle-in-range : 1 ≤ pipes → 1 ≤ tokens → isIdle slot ≡ true → slotInRange pipes tokens slot ≡ true
-    unfolding slotInRange
-    idle-in-range p t e = rw (idle-pipe e, idle-token e, idle-place e, lt-ltb 0 pipes p, lt-ltb 0 tokens t)
+-- the code's test of one slot is that of the rules
+module _ (s : Slot) (used : Bool) (pipes tokens : ℕ) where
+  abbrev held : ℕ
+  held = larger (s .token .0) (s .place .0)
 
-    -- and no slot is where there are no tokens
-    none-in-range : tokens ≡ 0 → slotInRange pipes tokens slot ≡ false
-    unfolding slotInRange
-    none-in-range z = rw (z, le-ltb (slot .token .0) 0 (omega arith)) (if-same (ltb (slot .pipe .0) pipes) false)
+  abbrev bound : ℕ
+  bound = if used tokens 0
 
-    in-range-by : slotInRange pipes tokens slot ≡ if (ltb (slot .pipe .0) pipes) (ltb (heldOf slot) tokens) false
-    unfolding slotInRange heldOf
-    in-range-by = rw (larger-ltb tokens (slot .token .0) (slot .place .0), if-eta (ltb (slot .place .0) tokens))
+  -- what the code asks
+  abbrev asked : Bool
+  asked = if (ltb (s .pipe .0) pipes) (if (if (s .running) true (ltb 0 (s .pipe .0))) (ltb held bound) (eqb held 0)) false
 
-module _ (pipes lines tokens : ℕ) (slots : List Slot) where
-  -- the slot of a line
-  abbrev at : ℕ → Slot
-  at l = getD slots l idle
+  below-bound : ltb held bound ≡ if used (if (ltb (s .token .0) tokens) (ltb (s .place .0) tokens) false) false
+  below-bound = by-test used
+      (λ u. rw u (larger-ltb tokens (s .token .0) (s .place .0)))
+      (λ u. rw u (le-ltb held 0 (omega arith)))
 
-  module _ (some : 1 ≤ pipes) (few : lines ≤ 32) where
-    -- in a plan without tokens
-    sound-idle : tokens ≡ 0 → (l : ℕ) → slotSound pipes lines tokens slots l ≡ isIdle (at l)
+  loaded-is : isIdle s ≡ false → if (s .running) true (ltb 0 (s .pipe .0)) ≡ true →
+      asked ≡ if (isIdle s) true (all (used ∷ isLoaded pipes tokens s ∷ []))
+  unfolding isLoaded
+  loaded-is i e = rw (i, e, below-bound) (any-order used (ltb (s .pipe .0) pipes) (ltb (s .token .0) tokens) (ltb (s .place .0) tokens))
+
+  runs-not-idle : s .running ≡ true → isIdle s ≡ false
+  unfolding isIdle
+  runs-not-idle r = rw r
+
+  past-not-idle : 0 < s .pipe .0 → isIdle s ≡ false
+  unfolding isIdle
+  past-not-idle h = rw (pos-eqb h) (if-same (not (s .running)) false)
+
+  waits-first : 1 ≤ pipes → s .running ≡ false → s .pipe .0 ≡ 0 → ltb 0 (s .pipe .0) ≡ false →
+      asked ≡ if (isIdle s) true (all (used ∷ isLoaded pipes tokens s ∷ []))
+  unfolding isIdle isLoaded
+  waits-first some r z t =
+      rw (r, t, eq-eqb (s .pipe .0) 0 z, lt-ltb (s .pipe .0) pipes (omega arith), larger-none (s .token .0) (s .place .0))
+      (nothing-held used (eqb (s .token .0) 0) (eqb (s .place .0) 0))
+
+  pub slot-is : 1 ≤ pipes → asked ≡ if (isIdle s) true (all (used ∷ isLoaded pipes tokens s ∷ []))
+  slot-is some = by-test (s .running)
+      (λ r. loaded-is (runs-not-idle r) (rw r))
+      (λ r. elim (below 0 (s .pipe .0)) [
+        | lower h t ↦ loaded-is (past-not-idle h) (rw (r, t))
+        | upper h t ↦ let first : s .pipe .0 ≡ 0 = omega arith in waits-first some r first t
+      ])
+
+module _ (slots : Slots) where
+  -- the walk, one slot more
+  pub running-more : (n : ℕ) {many : ℕ} → many ≡ runningBelow slots n → many + if (slotAt slots n .running) 1 0 ≡ runningBelow slots (n + 1)
+  unfolding runningBelow
+  running-more n h = rw (add-one n, h) (omega arith)
+
+  module _ (pipes lines tokens : ℕ) where
+    -- a line that the plan does not have is idle
+    spare-idle : (l : ℕ) → lines ≤ l → slotSound pipes lines tokens slots l ≡ true → isIdle (slotAt slots l) ≡ true
     unfolding slotSound
-    sound-idle z l = rw (none-in-range (at l) pipes tokens z, if-same (ltb l lines) false) (if-eta (isIdle (at l)))
+    spare-idle l h e = by-test (isIdle (slotAt slots l))
+        (λ i. i)
+        (λ i. absurd (true≢false (sym (rw (i, le-ltb l lines h) at e))))
 
-    -- in any other
-    module _ (any : 1 ≤ tokens) where
-      used : (l : ℕ) → l < lines → slotSound pipes lines tokens slots l ≡ if (ltb (at l .pipe .0) pipes) (ltb (heldOf (at l)) tokens) false
-      unfolding slotSound
-      used l h =
-          rw (lt-ltb l lines h, if-eta (slotInRange pipes tokens (at l)))
-          (by-test (isIdle (at l))
-          (λ i. rw i (sym (idle-in-range (at l) pipes tokens some any i) ∙ in-range-by (at l) pipes tokens))
-          (λ i. rw i (in-range-by (at l) pipes tokens)))
+    -- so no more lines run than the plan's
+    pub running-all : (n : ℕ) → lines ≤ n → every n (slotSound pipes lines tokens slots) ≡ true → runningBelow slots n ≡ runningBelow slots lines
+    unfolding every runningBelow
+    running-all zero h e = let none : lines ≡ 0 = omega arith in rw none
+    running-all (suc n) h e = by-cases (ℕ-discrete lines (suc n))
+        (λ same. rw same)
+        (λ less.
+        let rests : slotAt slots n .running ≡ false =
+        idle-rests (slotAt slots n) (spare-idle n (omega arith) (first-holds (slotSound pipes lines tokens slots n) _ e)) in
+        rw rests (omega (arith, running-all n (omega arith) (rest-hold (slotSound pipes lines tokens slots n) _ e))))
 
-      unused : (l : ℕ) → lines ≤ l → slotSound pipes lines tokens slots l ≡ isIdle (at l)
-      unfolding slotSound
-      unused l h = rw (le-ltb l lines h) (if-eta (isIdle (at l)))
-
-      abbrev highPipe : Bool
-      highPipe = ltb (highest lines (λ l. at l .pipe .0)) pipes
-
-      abbrev highHeld : Bool
-      highHeld = ltb (highest lines (λ l. heldOf (at l))) tokens
-
-      firsts : every lines (λ l. if (ltb (at l .pipe .0) pipes) (ltb (heldOf (at l)) tokens) false) ≡ if highPipe highHeld false
-      firsts =
-          every-both lines (λ l. ltb (at l .pipe .0) pipes) (λ l. ltb (heldOf (at l)) tokens) ∙
-          rw (
-            highest-test (λ n. ltb n pipes) (lt-ltb 0 pipes some) (larger-ltb pipes) lines (λ l. at l .pipe .0),
-            highest-test (λ n. ltb n tokens) (lt-ltb 0 tokens any) (larger-ltb tokens) lines (λ l. heldOf (at l)),
-          )
-
-      all-slots : every 32 (slotSound pipes lines tokens slots) ≡ if (if highPipe highHeld false) (everyFrom lines 32 (idleAt slots)) false
-      all-slots =
-          every-parts _ 32 lines (λ l. if (ltb (at l .pipe .0) pipes) (ltb (heldOf (at l)) tokens) false) (idleAt slots) few used unused ∙
-          ap (λ b. if b (everyFrom lines 32 (idleAt slots)) false) firsts
-
-    -- what the walk finds tells whether all slots are within their ranges
-    pub fits-is : (line : ℕ) → fitsOf (tallyOf slots (if (eqb tokens 0) 0 lines) line) pipes tokens ≡ every 32 (slotSound pipes lines tokens slots)
-    unfolding fitsOf tallyOf
-    fits-is line = elim (sameAs tokens 0) [
-      | same z t ↦ rw t (from-none (idleAt slots) 32 ∙ sym (every-same 32 _ _ (λ l h. sound-idle z l)))
-      | other z t ↦
-          let any : 1 ≤ tokens = omega (arith, z) in
-          rw t (three (highPipe any) (highHeld any) (everyFrom lines 32 (idleAt slots)) ∙ sym (all-slots any))
-    ]
-
-    -- and how many lines run
-    all-idle : tokens ≡ 0 → every 32 (slotSound pipes lines tokens slots) ≡ true → every lines (idleAt slots) ≡ true
-    all-idle z ok = every-below 32 lines (idleAt slots) few (sym (every-same 32 _ _ (λ l h. sound-idle z l)) ∙ ok)
-
-    pub running-is : every 32 (slotSound pipes lines tokens slots) ≡ true → runningBelow slots (if (eqb tokens 0) 0 lines) ≡ runningBelow slots lines
-    unfolding runningBelow
-    running-is ok = elim (sameAs tokens 0) [
-      | same z t ↦ rw t (sym (none-runs slots lines (all-idle z ok)))
-      | other z t ↦ rw t
-    ]
+    -- the walk is at its end
+    pub tally-is : {n running : ℕ} {sound : Bool} → n ≡ 32 → sound ≡ every n (slotSound pipes lines tokens slots) → running ≡ runningBelow slots n →
+        record { sound = sound; running = running } ≡ tallyOf slots pipes lines tokens
+    unfolding tallyOf
+    tally-is n-is s r = rw (s, r, n-is)

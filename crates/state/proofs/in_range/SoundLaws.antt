@@ -2,27 +2,26 @@
 use mathlib.Core.Path.{_≡_, refl, sym, ap, _∙_}
 use mathlib.Core.Bool.{Bool, true, false, not}
 use mathlib.Core.List.{List}
-use mathlib.Core.Logic.{by-cases}
 use Prim.Native.Nat.{ℕ, zero, suc, _+_, _*_, _<_, _≤_}
 use native.Mathlib.Omega.{arith}
-use native.Mathlib.Decide.{ℕ-discrete}
 use borrow.Author.Tests.{ltb-true, lt-ltb}
 use lib.Dec.{ltb, eqb}
 use lib.ListN.{getD}
 use Rattle.rules.specs.Lists.{if, every}
 use Rattle.rules.specs.declared.Slot.{Slot}
-use Rattle.rules.specs.RunState.{idle}
+use Rattle.rules.specs.declared.Slots.{Slots}
+use Rattle.rules.specs.RunState.{slotAt}
 use Rattle.rules.specs.Choices.{movable, ended}
-use Rattle.rules.specs.Ranges.{isIdle, slotInRange, slotSound, serialSound, numbersSound, sound}
+use Rattle.rules.specs.Ranges.{isIdle, isLoaded, slotSound, serialSound, numbersSound, sound}
 use Rattle.tables.specs.Calls.{memorySource}
 use Rattle.state.specs.declared.State.{State}
 use Rattle.state.specs.declared.Figures.{Figures}
 use Rattle.state.specs.RangeParts.{figuresSound}
-use Rattle.state.specs.Machines.{machineOf}
+use Rattle.state.specs.Machines.{slotsOf, machineOf}
 use Rattle.state.specs.Ending.{isStill, overOf, endedOf}
 use Rattle.state.specs.Machines.{whole, Ready}
 use Rattle.rules.proofs.lists.Tests.{by-test}
-use Rattle.state.proofs.in_range.Rows.{first-holds, rest-hold}
+use Rattle.state.proofs.in_range.Rows.{first-holds, rest-hold, every-at}
 use Rattle.state.proofs.in_range.SlotLaws.{idle-pipe}
 use Rattle.state.proofs.in_range.RangeLaws as figures
 use Rattle.state.proofs.in_range.RangeLaws.{numbers-are}
@@ -40,36 +39,29 @@ figuresOf s = record {
 }
 
 -- a line's slot
-abbrev slotAt : State → ℕ → Slot
-slotAt s l = getD (s .slots) l idle
-
--- a test of each number below n holds of one of them
-every-at : (n i : ℕ) (f : ℕ → Bool) → i < n → every n f ≡ true → f i ≡ true
-unfolding every
-every-at zero i f h e = absurd (omega arith)
-every-at (suc n) i f h e = by-cases (ℕ-discrete i n)
-    (λ i-is. ap f i-is ∙ first-holds (f n) _ e)
-    (λ less. every-at n i f (omega arith) (rest-hold (f n) _ e))
+abbrev slotIn : State → ℕ → Slot
+slotIn s l = slotAt (slotsOf s) l
 
 module _ (slot : Slot) where
-  -- a slot in range is at a pipe below P
-  in-range-pipe : (pipes tokens : ℕ) → slotInRange pipes tokens slot ≡ true → slot .pipe .0 < pipes
-  unfolding slotInRange
-  in-range-pipe pipes tokens e = ltb-true (slot .pipe .0) pipes (first-holds (ltb (slot .pipe .0) pipes) _ e)
+  -- a loaded slot is at a pipe below P
+  loaded-pipe : (pipes tokens : ℕ) → isLoaded pipes tokens slot ≡ true → slot .pipe .0 < pipes
+  unfolding isLoaded
+  loaded-pipe pipes tokens e =
+      ltb-true (slot .pipe .0) pipes (first-holds (ltb (slot .pipe .0) pipes) _ (rest-hold (if (slot .running) true (ltb 0 (slot .pipe .0))) _ e))
 
 module _ (s : State) (mem : List ℕ) (ok : sound memorySource (machineOf s mem) ≡ true) where
   numbers-ok : numbersSound (machineOf s mem) ≡ true
   unfolding sound
   numbers-ok = first-holds (numbersSound (machineOf s mem)) _ ok
 
-  slots-ok : every 32 (slotSound (s .pipes) (s .lines) (s .tables .tokens) (s .slots)) ≡ true
+  slots-ok : every 32 (slotSound (s .pipes) (s .lines) (s .tables .tokens) (slotsOf s)) ≡ true
   unfolding sound machineOf
   slots-ok =
-      first-holds (every 32 (slotSound (s .pipes) (s .lines) (s .tables .tokens) (s .slots))) _
+      first-holds (every 32 (slotSound (s .pipes) (s .lines) (s .tables .tokens) (slotsOf s))) _
       (rest-hold (every 16 (serialSound (s .pipes) (s .serial))) _ (rest-hold (numbersSound (machineOf s mem)) _ ok))
 
   figures-ok : figuresSound (figuresOf s) ≡ true
-  figures-ok = first-holds (figuresSound (figuresOf s)) _ (sym (numbers-are (figuresOf s) (s .counters) (s .slots) mem) ∙ numbers-ok)
+  figures-ok = first-holds (figuresSound (figuresOf s)) _ (sym (numbers-are (figuresOf s) (s .counters) (slotsOf s) mem) ∙ numbers-ok)
 
   pipes-some : 1 ≤ s .pipes
   pipes-some = figures.pipes-some (figuresOf s) figures-ok
@@ -81,22 +73,22 @@ module _ (s : State) (mem : List ℕ) (ok : sound memorySource (machineOf s mem)
   lines-most = figures.lines-most (figuresOf s) figures-ok
 
   -- each line is at a pipe of the plan
-  pipe-less : (l : ℕ) → l < 32 → slotAt s l .pipe .0 < s .pipes
+  pipe-less : (l : ℕ) → l < 32 → slotIn s l .pipe .0 < s .pipes
   unfolding slotSound
   pipe-less l h =
-      let slot : Slot = slotAt s l in
-      let e : slotSound (s .pipes) (s .lines) (s .tables .tokens) (s .slots) l ≡ true = every-at 32 l _ h slots-ok in
+      let slot : Slot = slotIn s l in
+      let e : slotSound (s .pipes) (s .lines) (s .tables .tokens) (slotsOf s) l ≡ true = every-at 32 l _ h slots-ok in
       by-test (isIdle slot)
       (λ i. let z : slot .pipe .0 ≡ 0 = idle-pipe slot i in omega (arith, pipes-some))
-      (λ i. in-range-pipe slot (s .pipes) (s .tables .tokens)
-      (first-holds (slotInRange (s .pipes) (s .tables .tokens) slot) _ (rest-hold (ltb l (s .lines)) _ (rw i at e))))
+      (λ i. loaded-pipe slot (s .pipes) (s .tables .tokens)
+      (first-holds (isLoaded (s .pipes) (s .tables .tokens) slot) _ (rest-hold (ltb l (s .lines)) _ (rw i at e))))
 
   -- no line below n can move
-  still-lines : (n : ℕ) → n ≤ s .lines → every n (isStill (s .counters) (s .slots)) ≡ not (movable (machineOf s mem) n)
+  still-lines : (n : ℕ) → n ≤ s .lines → every n (isStill (s .counters) (slotsOf s)) ≡ not (movable (machineOf s mem) n)
   unfolding every movable isStill machineOf
   still-lines zero h = refl
   still-lines (suc n) h =
-      let slot : Slot = slotAt s n in
+      let slot : Slot = slotIn s n in
       let a : ltb n 32 ≡ true = lt-ltb n 32 (omega (arith, lines-most)) in
       let b : ltb (slot .pipe .0) 16 ≡ true = lt-ltb (slot .pipe .0) 16 (omega (arith, pipe-less n (omega (arith, lines-most)), pipes-most)) in
       by-test (slot .running)
@@ -111,8 +103,8 @@ module _ (s : State) (mem : List ℕ) (ok : sound memorySource (machineOf s mem)
   ended-is = ap (λ b. if (s .stopped) b false) (still-lines (s .lines) (omega arith))
 
 -- so a line of the plan is ready to move
-pub ready : (f : Figures) (counters : List ℕ) (slots : List Slot) (mem : List ℕ) → sound memorySource (machineOf (whole f counters slots) mem) ≡ true →
-    (l : ℕ) → l < f .lines → Ready f (getD slots l idle) l
+pub ready : (f : Figures) (counters : List ℕ) (slots : Slots) (mem : List ℕ) → sound memorySource (machineOf (whole f counters slots) mem) ≡ true →
+    (l : ℕ) → l < f .lines → Ready f (slotAt slots l) l
 ready f counters slots mem ok l h = record {
   lines = lines-most (whole f counters slots) mem ok;
   pipes = pipes-most (whole f counters slots) mem ok;

@@ -4,9 +4,8 @@ use mathlib.Core.Bool.{Bool, true}
 use mathlib.Core.List.{List}
 use Prim.Native.Nat.{ℕ, _<_}
 use borrow.Author.Tests.{lt-ltb}
-use lib.ListN.{getD}
-use Rattle.rules.specs.declared.Slot.{Slot}
-use Rattle.rules.specs.RunState.{idle}
+use Rattle.rules.specs.declared.Slots.{Slots}
+use Rattle.rules.specs.RunState.{slotAt}
 use Rattle.rules.specs.Choices.{runningBelow}
 use Rattle.rules.specs.Ranges.{sound}
 use Rattle.rules.proofs.lists.Tests.{by-test}
@@ -16,7 +15,7 @@ use Rattle.state.specs.declared.ranges.Survey.{Survey}
 use Rattle.state.specs.Machines.{machineOf, whole}
 use Rattle.state.specs.Surveys.{near, spoiled, surveyOf}
 
-module _ (f : Figures) (counters : List ℕ) (slots : List Slot) (mem : List ℕ) (line : ℕ) {r : Survey} (r-is : r ≡ surveyOf f counters slots mem line) where
+module _ (f : Figures) (counters : List ℕ) (slots : Slots) (mem : List ℕ) (line : ℕ) {r : Survey} (r-is : r ≡ surveyOf f counters slots mem line) where
   abbrev soundHere : Bool
   soundHere = sound memorySource (machineOf (whole f counters slots) mem)
 
@@ -35,6 +34,6 @@ module _ (f : Figures) (counters : List ℕ) (slots : List Slot) (mem : List ℕ
     tells-running = ap (λ s. s .running) r-is ∙ rw is-sound
 
     -- what the chosen line does
-    pub tells-slot : line < 32 → r .slot ≡ getD slots line idle
+    pub tells-slot : line < 32 → r .slot ≡ slotAt slots line
     unfolding surveyOf near
     tells-slot h = ap (λ s. s .slot) r-is ∙ rw (is-sound, lt-ltb line 32 h)

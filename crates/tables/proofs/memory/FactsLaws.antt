@@ -1,8 +1,8 @@
 -- The definitions of specs/Facts, case by case, as the code meets them.
-use mathlib.Core.Path.{_≡_, refl, sym, _∙_, subst}
+use mathlib.Core.Path.{_≡_, refl, sym, ap, _∙_, subst}
 use mathlib.Core.Bool.{Bool, true, false, not}
 use mathlib.Core.List.{List}
-use Prim.Native.Nat.{ℕ, _+_, _-_, _<_, _≤_}
+use Prim.Native.Nat.{ℕ, suc, _+_, _-_, _<_, _≤_}
 use native.Mathlib.Omega.{arith}
 use native.Mathlib.Numerals.{add-one}
 use lib.Dec.{leb, eqb}
@@ -87,6 +87,13 @@ module _ {A : Type 0} {whole : Bool} (p : A → Bool) (l : List A) (i : ℕ) (le
     unfolding any
     any-next e = rw (add-one i) (rw (drop-cons l i d more, e) at left)
 
+-- a part of a list, by its first element
+any-first : {A : Type 0} (p : A → Bool) (l : List A) (i n : ℕ) (d : A) → i < length l → 1 ≤ n → p (getD l i d) ≡ true → true ≡ any p (take n (drop i l))
+unfolding any
+any-first p l i n d more some e =
+    let n-is : n ≡ suc (n - 1) = omega arith in
+    rw (n-is, drop-cons l i d more, e)
+
 -- a record's number part lies within the records
 within : Numbers → Type 0
 within Numbers.Bad = Unit {0}
@@ -137,3 +144,12 @@ module _ (f : List ℕ) (t : ℕ) {r : Numbers} (numbers-are : r ≡ numbersOf f
 pub wakes-beyond : (f : List ℕ) (tokens d t : ℕ) → tokens ≤ t → Test.Unsound ≡ wakesOf f tokens d t
 unfolding wakesOf
 wakes-beyond f tokens d t h = rw (le-leb tokens t h)
+
+-- a token whose record lies well among the records, and begins with a number that it still has, waits
+pub waits-first : (f : List ℕ) (tokens d t : ℕ) {place n : ℕ} → length f ≡ 24576 → t < tokens → place ≡ getD f (16384 + t) 0 → (place ≡ 0 → ⊥) → place ≤ 16367
+    → n ≡ getD f place 0 → 1 ≤ n → n ≤ 16 → holdsOf f (Question.Left d) (getD f (place + 1) 0) ≡ true → wakesOf f tokens d t ≡ Test.No
+unfolding numbersOf anyOf
+waits-first f tokens d t {place} {n} whole inside place-is given low n-is some few held =
+    let size : place + 1 + n - (place + 1) ≡ n = omega arith in
+    let part-is : numbersOf f t ≡ Numbers.Part (place + 1) (place + 1 + n) = ap (numbersAt f) (sym place-is) ∙ sym (at-good f n-is given (omega arith) some few) in
+    sym (wakes-left f t refl tokens d inside part-is (rw size (any-first (holdsOf f (Question.Left d)) f (place + 1) n 0 (omega arith) some held)) refl)

@@ -13,20 +13,47 @@ abbrev μ-loop : tie.MeasureT-loop
 loop-holds : tie.Need-loop-holds Inv-loop μ-loop
 loop-holds c = search needs
 
-mul-x : tie.Need-mul-x Inv-loop μ-loop
-mul-x c = search needs
+mul-same : tie.Need-mul-same Inv-loop μ-loop
+mul-same c = search needs
 
-array-copy-out-x : tie.Need-array-copy-out-x Inv-loop μ-loop
-array-copy-out-x c = search needs
+element-copy-out-same : tie.Need-element-copy-out-same Inv-loop μ-loop
+element-copy-out-same c = search needs
 
-mul-y : tie.Need-mul-y Inv-loop μ-loop
-mul-y c = search needs
+mul-same-2 : tie.Need-mul-same-2 Inv-loop μ-loop
+mul-same-2 c = search needs
 
-array-copy-out-y : tie.Need-array-copy-out-y Inv-loop μ-loop
-array-copy-out-y c = search needs
+element-copy-out-same-2 : tie.Need-element-copy-out-same-2 Inv-loop μ-loop
+element-copy-out-same-2 c = search needs
 
-same-slot-requires : tie.Need-same-slot-requires Inv-loop μ-loop
-same-slot-requires c κs = search needs
+element-copy-out-same-3 : tie.Need-element-copy-out-same-3 Inv-loop μ-loop
+element-copy-out-same-3 c = search needs
+
+element-copy-out-same-4 : tie.Need-element-copy-out-same-4 Inv-loop μ-loop
+element-copy-out-same-4 c = search needs
+
+mul-same-3 : tie.Need-mul-same-3 Inv-loop μ-loop
+mul-same-3 c = search needs
+
+element-copy-out-same-5 : tie.Need-element-copy-out-same-5 Inv-loop μ-loop
+element-copy-out-same-5 c = search needs
+
+mul-same-4 : tie.Need-mul-same-4 Inv-loop μ-loop
+mul-same-4 c = search needs
+
+element-copy-out-same-6 : tie.Need-element-copy-out-same-6 Inv-loop μ-loop
+element-copy-out-same-6 c = search needs
+
+mul-same-5 : tie.Need-mul-same-5 Inv-loop μ-loop
+mul-same-5 c = search needs
+
+element-copy-out-same-7 : tie.Need-element-copy-out-same-7 Inv-loop μ-loop
+element-copy-out-same-7 c = search needs
+
+mul-same-6 : tie.Need-mul-same-6 Inv-loop μ-loop
+mul-same-6 c = search needs
+
+element-copy-out-same-8 : tie.Need-element-copy-out-same-8 Inv-loop μ-loop
+element-copy-out-same-8 c = search needs
 
 add-i : tie.Need-add-i Inv-loop μ-loop
 add-i c = search needs
@@ -47,11 +74,20 @@ same-slots-spec =
     Inv-loop
     μ-loop
     loop-holds
-    mul-x
-    array-copy-out-x
-    mul-y
-    array-copy-out-y
-    same-slot-requires
+    mul-same
+    element-copy-out-same
+    mul-same-2
+    element-copy-out-same-2
+    element-copy-out-same-3
+    element-copy-out-same-4
+    mul-same-3
+    element-copy-out-same-5
+    mul-same-4
+    element-copy-out-same-6
+    mul-same-5
+    element-copy-out-same-7
+    mul-same-6
+    element-copy-out-same-8
     add-i
     loop-less
     loop-again

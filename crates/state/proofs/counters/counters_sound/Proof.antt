@@ -20,7 +20,7 @@ returns c =
     let after-highest-row = c .before .before in
     let after-most-row = after-highest-row .before in
     rw (
-      counters-are _ _ _ _ (after-most-row .before .pre),
+      counters-are _ _ _ _ (after-most-row .before .pre .1),
       ← after-most-row .most-row .ensures,
       ← after-highest-row .highest-row .ensures,
       sym (c .before .row-within .ensures) ∙ not-true _ (c .if1 .taken),
@@ -39,7 +39,7 @@ returns-2 c =
     let after-highest-row = at-if1 .before .before in
     let after-most-row = after-highest-row .before in
     rw (
-      counters-are _ _ _ _ (after-most-row .before .pre),
+      counters-are _ _ _ _ (after-most-row .before .pre .1),
       ← after-most-row .most-row .ensures,
       ← after-highest-row .highest-row .ensures,
       ← after-highest-row2 .highest-row2 .ensures,

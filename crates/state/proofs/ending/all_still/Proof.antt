@@ -5,6 +5,7 @@ use Prim.Native.Nat.{_-_, _≤_}
 use native.Mathlib.Omega.{arith}
 use borrow.Author.Needs.{needs}
 use Rattle.rules.specs.Lists.{every}
+use Rattle.rules.specs.RunState.{slotAt}
 use Rattle.state.specs.Ending.{isStill}
 use Rattle.rules.proofs.lists.Tests.{tests}
 use Rattle.rules.proofs.lists.EveryBelow.{every-none, every-more, every-done, every-fails}
@@ -21,25 +22,28 @@ loop-holds : tie.Need-loop-holds Inv-loop μ-loop
 loop-holds c = (omega arith, every-none _)
 
 returns : tie.Need-returns Inv-loop μ-loop
-unfolding isStill
+unfolding isStill slotAt
 returns c = every-fails _ _ (c .before .before .loop .l) (omega arith) (sym (search tests depth 12))
 
-mul-slot : tie.Need-mul-slot Inv-loop μ-loop
-mul-slot c = search needs
+mul-at : tie.Need-mul-at Inv-loop μ-loop
+mul-at c = search needs
 
-array-copy-out-slot : tie.Need-array-copy-out-slot Inv-loop μ-loop
-array-copy-out-slot c = search needs
+element-copy-out-at : tie.Need-element-copy-out-at Inv-loop μ-loop
+element-copy-out-at c = search needs
 
 cast-pipe : tie.Need-cast-pipe Inv-loop μ-loop
 cast-pipe c = search needs
 
 returns-2 : tie.Need-returns-2 Inv-loop μ-loop
-unfolding isStill
+unfolding isStill slotAt
 returns-2 c = every-fails _ _ (c .before .before .before .before .before .loop .l) (omega arith) (sym (search tests depth 12))
 
+element-copy-out-if3 : tie.Need-element-copy-out-if3 Inv-loop μ-loop
+element-copy-out-if3 c = search needs
+
 returns-3 : tie.Need-returns-3 Inv-loop μ-loop
-unfolding isStill
-returns-3 c = every-fails _ _ (c .before .before .before .before .before .before .loop .l) (omega arith) (sym (search tests depth 12))
+unfolding isStill slotAt
+returns-3 c = every-fails _ _ (c .before .before .before .before .before .before .before .loop .l) (omega arith) (sym (search tests depth 12))
 
 mul-counter : tie.Need-mul-counter Inv-loop μ-loop
 mul-counter c = search needs
@@ -51,8 +55,8 @@ element-copy-out-counter : tie.Need-element-copy-out-counter Inv-loop μ-loop
 element-copy-out-counter c = search needs
 
 returns-4 : tie.Need-returns-4 Inv-loop μ-loop
-unfolding isStill
-returns-4 c = every-fails _ _ (c .before .before .before .before .before .before .before .before .loop .l) (omega arith) (sym (search tests depth 12))
+unfolding isStill slotAt
+returns-4 c = every-fails _ _ (c .before .before .before .before .before .before .before .before .before .loop .l) (omega arith) (sym (search tests depth 12))
 
 add-l : tie.Need-add-l Inv-loop μ-loop
 add-l c = omega arith
@@ -61,9 +65,9 @@ loop-less : tie.Need-loop-less Inv-loop μ-loop
 loop-less c = omega arith
 
 loop-again : tie.Need-loop-again Inv-loop μ-loop
-unfolding isStill
+unfolding isStill slotAt
 loop-again c =
-    let at-loop = c .before .before .before .before .before .before .before .before in
+    let at-loop = c .before .before .before .before .before .before .before .before .before in
     (omega arith, every-more _ _ (at-loop .loop .inv .1) (sym (search tests depth 12)))
 
 returns-5 : tie.Need-returns-5 Inv-loop μ-loop
@@ -77,10 +81,11 @@ all-still-spec =
     μ-loop
     loop-holds
     returns
-    mul-slot
-    array-copy-out-slot
+    mul-at
+    element-copy-out-at
     cast-pipe
     returns-2
+    element-copy-out-if3
     returns-3
     mul-counter
     add-counter

@@ -1,13 +1,18 @@
 -- `state::ranges::rest_sound` meets its contract.
 use borrow.Author.Tests.{not-true, not-false}
 use borrow.Author.Needs.{needs}
-use mathlib.Core.Path.{sym, _∙_}
-use native.Mathlib.Omega.{arith}
+use mathlib.Core.Path.{_≡_, sym, _∙_}
+use mathlib.Core.Bool.{true}
 use Rattle.rules.proofs.lists.Tests.{if-eta}
+use Rattle.state.specs.RangeParts.{figuresSound}
 use Rattle.state.specs.Surveys.{restSound}
 use Rattle.state.proofs.in_range.RangeLaws as laws
 use Rattle.state.proofs.ranges.rest_sound.Statement.{statement}
 use Rattle.state.proofs.ranges.rest_sound.Tie as tie
+
+-- past the first test the single numbers are in range
+figures : (c : tie.Else1) → figuresSound (c .before .before .before .args .t1) ≡ true
+figures c = sym (c .before .numbers-sound .ensures) ∙ not-false _ (c .if1 .left)
 
 numbers-sound-requires : tie.Need-numbers-sound-requires
 numbers-sound-requires c κs = search needs
@@ -17,37 +22,30 @@ unfolding restSound
 returns c = rw (sym (c .before .numbers-sound .ensures) ∙ not-true _ (c .if1 .taken))
 
 cast-pipes : tie.Need-cast-pipes
-cast-pipes c = omega (arith, laws.pipes-most _ (sym (c .before .before .numbers-sound .ensures) ∙ not-false _ (c .before .if1 .left)))
+cast-pipes c = search needs
 
 cast-lines : tie.Need-cast-lines
 cast-lines c = search needs
 
 counters-sound-requires : tie.Need-counters-sound-requires
-counters-sound-requires c κs =
-    let at-if1 = c .before .before .before in
-    laws.lines-most _ (sym (at-if1 .before .numbers-sound .ensures) ∙ not-false _ (at-if1 .if1 .left))
+counters-sound-requires c κs = let ok = figures (c .before .before) in (laws.pipes-most _ ok, laws.lines-most _ ok)
 
 returns-2 : tie.Need-returns-2
 unfolding restSound
 returns-2 c =
     let after-counters = c .before in
-    let at-if1 = after-counters .before .before .before .before in
-    rw (
-      sym (at-if1 .before .numbers-sound .ensures) ∙ not-false _ (at-if1 .if1 .left),
-      sym (after-counters .counters-sound .ensures) ∙ not-true _ (c .if2 .taken),
-    )
+    rw (figures (after-counters .before .before .before), sym (after-counters .counters-sound .ensures) ∙ not-true _ (c .if2 .taken))
 
 flags-sound-requires : tie.Need-flags-sound-requires
-flags-sound-requires c κs = search needs
+flags-sound-requires c κs = laws.pipes-most _ (figures (c .before .before .before .before .before .before))
 
 returns-3 : tie.Need-returns-3
 unfolding restSound
 returns-3 c =
-    let at-if2 = c .before .before in
+    let at-if2 = c .before .before .before .before in
     let after-counters = at-if2 .before in
-    let at-if1 = after-counters .before .before .before .before in
     rw (
-      sym (at-if1 .before .numbers-sound .ensures) ∙ not-false _ (at-if1 .if1 .left),
+      figures (after-counters .before .before .before),
       sym (after-counters .counters-sound .ensures) ∙ not-false _ (at-if2 .if2 .left),
       sym (c .before .flags-sound .ensures) ∙ not-true _ (c .if3 .taken),
     )
@@ -59,11 +57,10 @@ returns-4 : tie.Need-returns-4
 unfolding restSound
 returns-4 c =
     let at-if3 = c .before .before in
-    let at-if2 = at-if3 .before .before in
+    let at-if2 = at-if3 .before .before .before .before in
     let after-counters = at-if2 .before in
-    let at-if1 = after-counters .before .before .before .before in
     rw (
-      sym (at-if1 .before .numbers-sound .ensures) ∙ not-false _ (at-if1 .if1 .left),
+      figures (after-counters .before .before .before),
       sym (after-counters .counters-sound .ensures) ∙ not-false _ (at-if2 .if2 .left),
       sym (at-if3 .before .flags-sound .ensures) ∙ not-false _ (at-if3 .if3 .left),
     ) (c .sound .ensures ∙ sym (if-eta _))

@@ -1,136 +1,86 @@
--- `state::slots::walk` meets its contract. The invariants: the highest numbers and the lines that run are those of the slots below
--- l; then, all slots from `used` up to l are idle or `rest` says that they are not.
+-- `state::slots::walk` meets its contract. The invariant: `sound` says whether all slots below l are within their ranges, and
+-- `running` how many of these lines run.
 use mathlib.Core.Path.{_≡_, refl, sym, _∙_}
 use Prim.Native.Nat.{_-_, _≤_}
 use native.Mathlib.Omega.{arith}
 use borrow.Author.Needs.{needs}
-use lib.ListN.{getD}
-use Rattle.rules.specs.RunState.{idle}
+use Rattle.rules.specs.Lists.{every}
+use Rattle.rules.specs.RunState.{slotAt}
 use Rattle.rules.specs.Choices.{runningBelow}
-use Rattle.rules.specs.Ranges.{isIdle}
-use Rattle.state.specs.RangeParts.{everyFrom, larger, highest, heldOf}
-use Rattle.state.proofs.in_range.Rows.{from-empty, from-kept, from-lost}
-use Rattle.state.proofs.in_range.Highest.{highest-step}
+use Rattle.rules.specs.Ranges.{slotSound}
+use Rattle.rules.proofs.lists.EveryBelow.{every-none}
+use Rattle.state.proofs.in_range.Rows.{every-next}
 use Rattle.state.proofs.in_range.SlotLaws as laws
 use Rattle.state.proofs.slots.walk.Statement.{statement}
 use Rattle.state.proofs.slots.walk.Tie as tie
 
 abbrev Inv-loop : tie.InvT-loop
-Inv-loop used line slots pipe₀ held₀ running₀ l₀ pipe held running l =
-    (l ≤ used) × (used ≤ 32) × (running ≤ l) × (pipe ≡ highest l (λ i. getD slots i idle .pipe .0)) ×
-    (held ≡ highest l (λ i. heldOf (getD slots i idle))) × (running ≡ runningBelow slots l)
+Inv-loop lines pipes tokens slots sound₀ running₀ l₀ sound running l =
+    (l ≤ 32) × (running ≤ l) × (sound ≡ every l (slotSound pipes lines tokens slots)) × (running ≡ runningBelow slots l)
 
 abbrev μ-loop : tie.MeasureT-loop
-μ-loop used line slots pipe₀ held₀ running₀ l₀ pipe held running l = used - l
+μ-loop lines pipes tokens slots sound₀ running₀ l₀ sound running l = 32 - l
 
-abbrev Inv-loop2 : tie.InvT-loop2
-Inv-loop2 used line slots pipe held running l₀ rest₀ l rest =
-    (used ≤ l) × (l ≤ 32) × (rest ≡ everyFrom used l (λ i. isIdle (getD slots i idle)))
+loop-holds : tie.Need-loop-holds Inv-loop μ-loop
+unfolding runningBelow
+loop-holds c = (omega arith, omega arith, sym (every-none _), refl)
 
-abbrev μ-loop2 : tie.MeasureT-loop2
-μ-loop2 used line slots pipe held running l₀ rest₀ l rest = 32 - l
+mul-t12 : tie.Need-mul-t12 Inv-loop μ-loop
+mul-t12 c = omega arith
 
-loop-holds : tie.Need-loop-holds Inv-loop μ-loop Inv-loop2 μ-loop2
-unfolding highest runningBelow
-loop-holds c = (omega arith, omega arith, omega arith, refl, refl, refl)
+element-copy-out-t15 : tie.Need-element-copy-out-t15 Inv-loop μ-loop
+element-copy-out-t15 c = omega arith
 
-mul-slot : tie.Need-mul-slot Inv-loop μ-loop Inv-loop2 μ-loop2
-mul-slot c = omega arith
+element-copy-out-both : tie.Need-element-copy-out-both Inv-loop μ-loop
+element-copy-out-both c = omega arith
 
-array-copy-out-slot : tie.Need-array-copy-out-slot Inv-loop μ-loop Inv-loop2 μ-loop2
-array-copy-out-slot c = omega arith
+mul-t18 : tie.Need-mul-t18 Inv-loop μ-loop
+mul-t18 c = omega arith
 
-larger-requires : tie.Need-larger-requires Inv-loop μ-loop Inv-loop2 μ-loop2
-larger-requires c κs = search needs
+element-copy-out-t21 : tie.Need-element-copy-out-t21 Inv-loop μ-loop
+element-copy-out-t21 c = omega arith
 
-larger-requires-2 : tie.Need-larger-requires-2 Inv-loop μ-loop Inv-loop2 μ-loop2
-larger-requires-2 c κs = search needs
+mul-t22 : tie.Need-mul-t22 Inv-loop μ-loop
+mul-t22 c = omega arith
 
-larger-requires-3 : tie.Need-larger-requires-3 Inv-loop μ-loop Inv-loop2 μ-loop2
-larger-requires-3 c κs = search needs
+element-copy-out-t25 : tie.Need-element-copy-out-t25 Inv-loop μ-loop
+element-copy-out-t25 c = omega arith
 
-counted-requires : tie.Need-counted-requires Inv-loop μ-loop Inv-loop2 μ-loop2
-counted-requires c κs =
-    let in-loop = c .before .before .before .before in
-    let inv = in-loop .before .loop .inv in
-    omega (arith, inv .0, inv .1, inv .2, in-loop .loop-test .taken)
+cast-used : tie.Need-cast-used Inv-loop μ-loop
+cast-used c = omega arith
 
-add-l : tie.Need-add-l Inv-loop μ-loop Inv-loop2 μ-loop2
-add-l c = let inv = c .before .before .before .before .before .before .loop .inv in omega (arith, inv .0, inv .1)
+slot-sound-requires : tie.Need-slot-sound-requires Inv-loop μ-loop
+slot-sound-requires c κs = search needs
 
-loop-less : tie.Need-loop-less Inv-loop μ-loop Inv-loop2 μ-loop2
-loop-less c = let in-loop = c .before .before .before .before .before in omega (arith, in-loop .loop-test .taken)
+both-requires : tie.Need-both-requires Inv-loop μ-loop
+both-requires c κs = search needs
 
-loop-again : tie.Need-loop-again Inv-loop μ-loop Inv-loop2 μ-loop2
-unfolding heldOf
+counted-requires : tie.Need-counted-requires Inv-loop μ-loop
+counted-requires c κs = omega arith
+
+add-l : tie.Need-add-l Inv-loop μ-loop
+add-l c = omega arith
+
+loop-less : tie.Need-loop-less Inv-loop μ-loop
+loop-less c = omega arith
+
+loop-again : tie.Need-loop-again Inv-loop μ-loop
+unfolding slotSound slotAt
 loop-again c =
-    let in-loop = c .before .before .before .before .before in
-    let at-loop = in-loop .before in
+    let after-both = c .before in
+    let after-slot = after-both .before in
+    let at-loop = after-slot .before .before .before .before .before .before in
     let inv = at-loop .loop .inv in (
-      omega (arith, in-loop .loop-test .taken),
-      inv .1,
-      omega (arith, c .counted .ensures .1, inv .2),
-      c .before .before .before .larger .ensures ∙ highest-step _ _ (inv .3) refl,
-      c .before .larger3 .ensures ∙ highest-step _ _ (inv .4) (c .before .before .larger2 .ensures),
-      c .counted .ensures .0 ∙ laws.running-more _ _ (inv .5),
+      omega arith,
+      omega (arith, c .counted .ensures .1, inv .1),
+      after-both .both .ensures ∙ every-next _ (at-loop .loop .l) (inv .2) (after-slot .slot-sound .ensures),
+      c .counted .ensures .0 ∙ laws.running-more _ (at-loop .loop .l) (inv .3),
     )
 
-loop2-holds : tie.Need-loop2-holds Inv-loop μ-loop Inv-loop2 μ-loop2
-loop2-holds c = let inv = c .before .loop .inv in (omega (arith, c .loop-test .left), omega (arith, inv .0, inv .1), from-empty _ _ _ (inv .0))
-
-mul-slot-2 : tie.Need-mul-slot-2 Inv-loop μ-loop Inv-loop2 μ-loop2
-mul-slot-2 c = omega arith
-
-array-copy-out-slot-2 : tie.Need-array-copy-out-slot-2 Inv-loop μ-loop Inv-loop2 μ-loop2
-array-copy-out-slot-2 c = omega arith
-
-is-idle-requires : tie.Need-is-idle-requires Inv-loop μ-loop Inv-loop2 μ-loop2
-is-idle-requires c κs = search needs
-
-add-l-2 : tie.Need-add-l-2 Inv-loop μ-loop Inv-loop2 μ-loop2
-add-l-2 c = omega arith
-
-loop2-less : tie.Need-loop2-less Inv-loop μ-loop Inv-loop2 μ-loop2
-loop2-less c = omega arith
-
-loop2-again : tie.Need-loop2-again Inv-loop μ-loop Inv-loop2 μ-loop2
-loop2-again c =
-    let in-loop = c .before .before .before in
-    let inv = in-loop .before .loop2 .inv in (
-      omega (arith, inv .0),
-      omega (arith, in-loop .loop2-test .taken),
-      from-kept _ _ _ (inv .0) (inv .2) (sym (c .before .is-idle .ensures) ∙ c .if1 .taken),
-    )
-
-add-l-3 : tie.Need-add-l-3 Inv-loop μ-loop Inv-loop2 μ-loop2
-add-l-3 c = omega arith
-
-loop2-less-2 : tie.Need-loop2-less-2 Inv-loop μ-loop Inv-loop2 μ-loop2
-loop2-less-2 c = omega arith
-
-loop2-again-2 : tie.Need-loop2-again-2 Inv-loop μ-loop Inv-loop2 μ-loop2
-loop2-again-2 c =
-    let in-loop = c .before .before .before in
-    let inv = in-loop .before .loop2 .inv in (
-      omega (arith, inv .0),
-      omega (arith, in-loop .loop2-test .taken),
-      from-lost _ _ _ (inv .0) (sym (c .before .is-idle .ensures) ∙ c .if1 .left),
-    )
-
-mul-slot-3 : tie.Need-mul-slot-3 Inv-loop μ-loop Inv-loop2 μ-loop2
-mul-slot-3 c = omega arith
-
-array-copy-out-slot-3 : tie.Need-array-copy-out-slot-3 Inv-loop μ-loop Inv-loop2 μ-loop2
-array-copy-out-slot-3 c = omega arith
-
-returns : tie.Need-returns Inv-loop μ-loop Inv-loop2 μ-loop2
+returns : tie.Need-returns Inv-loop μ-loop
 returns c =
-    let after-loop2 = c .before in
-    let after-loop = after-loop2 .before .before in
-    let inv = after-loop .before .loop .inv in
-    let inv2 = after-loop2 .before .loop2 .inv in
-    laws.tally-is _ _ _ (omega (arith, inv .0, after-loop .loop-test .left)) (omega (arith, inv2 .1, after-loop2 .loop2-test .left))
-    (inv .3) (inv .4) (inv .5) (inv2 .2)
+    let inv = c .before .loop .inv in
+    laws.tally-is _ _ _ _ (omega (arith, inv .0, c .loop-test .left)) (inv .2) (inv .3)
 
 pub walk-spec : {M : Type 1} → statement M
 walk-spec =
@@ -138,28 +88,19 @@ walk-spec =
     (tie.spec
     Inv-loop
     μ-loop
-    Inv-loop2
-    μ-loop2
     loop-holds
-    mul-slot
-    array-copy-out-slot
-    larger-requires
-    larger-requires-2
-    larger-requires-3
+    mul-t12
+    element-copy-out-t15
+    element-copy-out-both
+    mul-t18
+    element-copy-out-t21
+    mul-t22
+    element-copy-out-t25
+    cast-used
+    slot-sound-requires
+    both-requires
     counted-requires
     add-l
     loop-less
     loop-again
-    loop2-holds
-    mul-slot-2
-    array-copy-out-slot-2
-    is-idle-requires
-    add-l-2
-    loop2-less
-    loop2-again
-    add-l-3
-    loop2-less-2
-    loop2-again-2
-    mul-slot-3
-    array-copy-out-slot-3
     returns)

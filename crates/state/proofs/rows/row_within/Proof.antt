@@ -1,16 +1,16 @@
--- `state::counters::row_within` meets its contract. The invariant: `ok` says whether all numbers before `p` are within.
-use mathlib.Core.Path.{_≡_, sym}
+-- `state::rows::row_within` meets its contract. The invariant: `ok` says whether all numbers before `p` are within.
+use mathlib.Core.Path.{_≡_, refl, sym, _∙_}
 use Prim.Native.Nat.{_-_, _≤_}
 use native.Mathlib.Omega.{arith}
-use borrow.Author.Tests.{le-leb, lt-leb}
+use borrow.Author.Needs.{needs}
 use lib.Dec.{leb}
 use lib.ListN.{getD}
 use Rattle.rules.specs.Lists.{every}
 use Rattle.rules.proofs.lists.EveryBelow.{every-none}
 use Rattle.state.specs.RangeParts.{rowWithin}
-use Rattle.state.proofs.in_range.Rows.{every-kept, every-lost, every-all}
-use Rattle.state.proofs.counters.row_within.Statement.{statement}
-use Rattle.state.proofs.counters.row_within.Tie as tie
+use Rattle.state.proofs.in_range.Rows.{every-next, every-all}
+use Rattle.state.proofs.rows.row_within.Statement.{statement}
+use Rattle.state.proofs.rows.row_within.Tie as tie
 
 abbrev Inv-loop : tie.InvT-loop
 Inv-loop row most ok₀ p₀ ok p = (p ≤ 16) × (ok ≡ every p (λ q. leb (getD row q 0) (getD most q 0)))
@@ -21,11 +21,14 @@ abbrev μ-loop : tie.MeasureT-loop
 loop-holds : tie.Need-loop-holds Inv-loop μ-loop
 loop-holds c = (omega arith, sym (every-none _))
 
-array-read-high : tie.Need-array-read-high Inv-loop μ-loop
-array-read-high c = omega arith
+array-read-both : tie.Need-array-read-both Inv-loop μ-loop
+array-read-both c = omega arith
 
-array-read-if1 : tie.Need-array-read-if1 Inv-loop μ-loop
-array-read-if1 c = omega arith
+array-read-both-2 : tie.Need-array-read-both-2 Inv-loop μ-loop
+array-read-both-2 c = omega arith
+
+both-requires : tie.Need-both-requires Inv-loop μ-loop
+both-requires c κs = search needs
 
 add-p : tie.Need-add-p Inv-loop μ-loop
 add-p c = omega arith
@@ -34,16 +37,8 @@ loop-less : tie.Need-loop-less Inv-loop μ-loop
 loop-less c = omega arith
 
 loop-again : tie.Need-loop-again Inv-loop μ-loop
-loop-again c = (omega arith, every-lost _ _ (lt-leb _ _ (c .if1 .taken)))
-
-add-p-2 : tie.Need-add-p-2 Inv-loop μ-loop
-add-p-2 c = omega arith
-
-loop-less-2 : tie.Need-loop-less-2 Inv-loop μ-loop
-loop-less-2 c = omega arith
-
-loop-again-2 : tie.Need-loop-again-2 Inv-loop μ-loop
-loop-again-2 c = (omega arith, every-kept _ _ (c .before .before .loop .inv .1) (le-leb _ _ (c .if1 .left)))
+loop-again c =
+    let at-loop = c .before .before in (omega arith, c .both .ensures ∙ every-next _ (at-loop .loop .p) (at-loop .loop .inv .1) refl)
 
 returns : tie.Need-returns Inv-loop μ-loop
 unfolding rowWithin
@@ -56,12 +51,10 @@ row-within-spec =
     Inv-loop
     μ-loop
     loop-holds
-    array-read-high
-    array-read-if1
+    array-read-both
+    array-read-both-2
+    both-requires
     add-p
     loop-less
     loop-again
-    add-p-2
-    loop-less-2
-    loop-again-2
     returns)
