@@ -1,15 +1,16 @@
 -- The definitions of specs/Facts, case by case, as the code meets them.
 use mathlib.Core.Path.{_≡_, refl, sym, ap, _∙_, subst}
 use mathlib.Core.Bool.{Bool, true, false, not}
-use mathlib.Core.List.{List}
-use Prim.Native.Nat.{ℕ, suc, _+_, _-_, _<_, _≤_}
+use mathlib.Core.List.{List, [], _∷_}
+use Prim.Native.Nat.{ℕ, zero, suc, _+_, _-_, _<_, _≤_}
 use native.Mathlib.Omega.{arith}
 use native.Mathlib.Numerals.{add-one}
 use lib.Dec.{leb, eqb}
-use lib.ListN.{length, getD, take, drop, List·getD-eq-default, drop-of-length-le}
-use lib.Seq.{drop-cons}
+use lib.ListN.{length, getD, take, drop, length-take, length-drop, List·getD-eq-default, drop-of-length-le}
+use lib.Seq.{drop-cons, getD-take, getD-drop}
 use borrow.Author.Tests.{lt-ltb, le-ltb, le-leb, lt-leb, ne-eqb, leb-true}
 use Rattle.rules.specs.Lists.{if, any}
+use Rattle.rules.proofs.lists.Tests.{by-test}
 use Rattle.tables.specs.declared.Numbers.{Numbers}
 use Rattle.tables.specs.declared.Question.{Question}
 use Rattle.tables.specs.declared.Test.{Test}
@@ -87,12 +88,17 @@ module _ {A : Type 0} {whole : Bool} (p : A → Bool) (l : List A) (i : ℕ) (le
     unfolding any
     any-next e = rw (add-one i) (rw (drop-cons l i d more, e) at left)
 
--- a part of a list, by its first element
-any-first : {A : Type 0} (p : A → Bool) (l : List A) (i n : ℕ) (d : A) → i < length l → 1 ≤ n → p (getD l i d) ≡ true → true ≡ any p (take n (drop i l))
+-- a list, and a part of one, by one of its elements
+any-at : {A : Type 0} (p : A → Bool) (l : List A) (i : ℕ) (d : A) → i < length l → p (getD l i d) ≡ true → true ≡ any p l
 unfolding any
-any-first p l i n d more some e =
-    let n-is : n ≡ suc (n - 1) = omega arith in
-    rw (n-is, drop-cons l i d more, e)
+any-at p [] i d h e = absurd (omega arith)
+any-at p (a ∷ l) zero d h e = rw e
+any-at p (a ∷ l) (suc i) d h e = by-test (p a) (λ t. rw t) (λ t. rw t (any-at p l i d (omega arith) e))
+
+any-within : {A : Type 0} (p : A → Bool) (l : List A) (a n j : ℕ) (d : A) → a + n ≤ length l → j < n → p (getD l (a + j) d) ≡ true →
+    true ≡ any p (take n (drop a l))
+any-within p l a n j d room h e =
+    any-at p (take n (drop a l)) j d (simp (length-take, length-drop) (omega arith)) (rw (getD-take, getD-drop) e)
 
 -- a record's number part lies within the records
 within : Numbers → Type 0
@@ -145,11 +151,13 @@ pub wakes-beyond : (f : List ℕ) (tokens d t : ℕ) → tokens ≤ t → Test.U
 unfolding wakesOf
 wakes-beyond f tokens d t h = rw (le-leb tokens t h)
 
--- a token whose record lies well among the records, and begins with a number that it still has, waits
-pub waits-first : (f : List ℕ) (tokens d t : ℕ) {place n : ℕ} → length f ≡ 24576 → t < tokens → place ≡ getD f (16384 + t) 0 → (place ≡ 0 → ⊥) → place ≤ 16367
-    → n ≡ getD f place 0 → 1 ≤ n → n ≤ 16 → holdsOf f (Question.Left d) (getD f (place + 1) 0) ≡ true → wakesOf f tokens d t ≡ Test.No
+-- a token whose record lies well among the records, and ends with a number that it still has, waits
+pub waits-last : (f : List ℕ) (tokens d t : ℕ) {place n : ℕ} → length f ≡ 24576 → t < tokens → place ≡ getD f (16384 + t) 0 → (place ≡ 0 → ⊥) → place ≤ 16367
+    → n ≡ getD f place 0 → 1 ≤ n → n ≤ 16 → holdsOf f (Question.Left d) (getD f (place + n) 0) ≡ true → wakesOf f tokens d t ≡ Test.No
 unfolding numbersOf anyOf
-waits-first f tokens d t {place} {n} whole inside place-is given low n-is some few held =
+waits-last f tokens d t {place} {n} whole inside place-is given low n-is some few held =
     let size : place + 1 + n - (place + 1) ≡ n = omega arith in
+    let last : place + 1 + (n - 1) ≡ place + n = omega arith in
     let part-is : numbersOf f t ≡ Numbers.Part (place + 1) (place + 1 + n) = ap (numbersAt f) (sym place-is) ∙ sym (at-good f n-is given (omega arith) some few) in
-    sym (wakes-left f t refl tokens d inside part-is (rw size (any-first (holdsOf f (Question.Left d)) f (place + 1) n 0 (omega arith) some held)) refl)
+    sym (wakes-left f t refl tokens d inside part-is
+    (rw size (any-within (holdsOf f (Question.Left d)) f (place + 1) n (n - 1) 0 (omega arith) (omega arith) (rw last held))) refl)

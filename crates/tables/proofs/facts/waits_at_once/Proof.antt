@@ -65,7 +65,7 @@ returns-6 c e =
     let at-if2 = at-if3 .before in
     let at-place = at-if2 .before in
     let at-if1 = at-place .before .before .before in
-    laws.waits-first _ _ _ _ (at-if1 .before .before .pre .0) (at-if1 .if1 .left) (at-place .wide2 .ensures .0 ∙ rw (at-place .before .before .wide .ensures .0)) (at-if2 .if2 .left) (at-if3 .if3 .left) (at-count .wide3 .ensures .0)
+    laws.waits-last _ _ _ _ (at-if1 .before .before .pre .0) (at-if1 .if1 .left) (at-place .wide2 .ensures .0 ∙ rw (at-place .before .before .wide .ensures .0)) (at-if2 .if2 .left) (at-if3 .if3 .left) (at-count .wide3 .ensures .0)
     (at-if5 .before .if4 .left) (at-if5 .if5 .left) (sym (c .holds .ensures) ∙ e)
 
 pub waits-at-once-spec : {M : Type 1} → statement M
