@@ -3,16 +3,16 @@ use mathlib.Core.Path.{_≡_, refl}
 use mathlib.Core.List.{List, [], _∷_, _++_, map}
 use Prim.Native.Nat.{ℕ, zero, suc, _*_}
 use lib.ListN.{length, replicate}
-use Rattle.plan.specs.Bytes.{fields, fieldBytes}
-use Rattle.rules.specs.Refusals.{numberOf}
+use Rattle.fields.specs.Bytes.{fields, fieldBytes}
+use Rattle.vocabulary.specs.Refusals.{numberOf}
 use Rattle.plan.specs.Plan.{Plan, encode, recordsBytes}
 use Rattle.plan.specs.Trailer.{headerCheck}
 use Rattle.plan.specs.Pipes.{pipesCheck, kindsCheck}
 use Rattle.plan.specs.Records.{recordsFrom, recordCheck, numbersFrom, recordsOf}
 use Rattle.plan.specs.Reading.{Outcome, accepted, refused, readOf, checkOf, partsCheck, planWith}
-use Rattle.rules.specs.declared.refusal.Refusal.the-variants.{ListsItself, RecordLayout, TotalCount}
+use Rattle.vocabulary.specs.declared.refusal.Refusal.the-variants.{ListsItself, RecordLayout, TotalCount}
 use Rattle.plan.specs.declared.verdict.Check.the-variants.{Passed, Failed}
-use Rattle.rules.specs.declared.pipe_kind.PipeKind.the-variants.{Serial}
+use Rattle.vocabulary.specs.declared.pipe_kind.PipeKind.the-variants.{Serial}
 
 -- what reading answers, as the paper numbers it; 0 for a plan
 numbered : Outcome → ℕ

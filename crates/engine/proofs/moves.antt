@@ -7,7 +7,5 @@ pub mod Parts
 pub mod StartLaws
 -- a finish;
 pub mod FinishLaws
--- the choice;
+-- the choice.
 pub mod ChooseLaws
--- a refused choice leaves state and memory as they were.
-pub mod Unchanged

@@ -2,8 +2,8 @@
 use mathlib.Core.List.{List}
 use Prim.Native.Nat.{ℕ}
 use Rattle.rules.specs.Choices as rules
-use Rattle.rules.specs.declared.refusal.Refusal.{Refusal}
-use Rattle.rules.specs.declared.answer.Answer.the-variants.{Refused}
+use Rattle.vocabulary.specs.declared.refusal.Refusal.{Refusal}
+use Rattle.vocabulary.specs.declared.answer.Answer.the-variants.{Refused}
 use Rattle.rules.specs.Answers.{answerOf}
 use Rattle.tables.specs.State as tables
 use Rattle.state.specs.declared.State.{State}

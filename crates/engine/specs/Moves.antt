@@ -6,10 +6,10 @@ use Prim.Native.Nat.{ℕ, _+_, _-_}
 use lib.Dec.{eqb, ltb}
 use lib.ListN.{getD, set}
 use Rattle.rules.specs.Lists.{if, mustNot}
-use Rattle.rules.specs.declared.Line.{Line}
-use Rattle.rules.specs.declared.Slot.{Slot}
-use Rattle.rules.specs.declared.Slots.{Slots}
-use Rattle.rules.specs.declared.answer.Answer.{Answer}
+use Rattle.vocabulary.specs.declared.Line.{Line}
+use Rattle.vocabulary.specs.declared.Slot.{Slot}
+use Rattle.vocabulary.specs.declared.Slots.{Slots}
+use Rattle.vocabulary.specs.declared.answer.Answer.{Answer}
 use Rattle.rules.specs.RunState.{Machine, waits, slotAt, putSlot, counterAt, slotOf, full}
 use Rattle.rules.specs.Choices.{Chosen, Finished, next, moved, withPlace, startFirst}
 use Rattle.rules.specs.Sources.{Taken, Spoiled, Nothing, Took}

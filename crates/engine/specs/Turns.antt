@@ -3,8 +3,8 @@ use mathlib.Core.Path.{_≡_}
 use mathlib.Core.List.{List}
 use Prim.Native.Nat.{ℕ, _<_}
 use lib.ListN.{set}
-use Rattle.rules.specs.declared.Slot.{Slot}
-use Rattle.rules.specs.declared.Slots.{Slots}
+use Rattle.vocabulary.specs.declared.Slot.{Slot}
+use Rattle.vocabulary.specs.declared.Slots.{Slots}
 use Rattle.rules.specs.RunState.{Machine, slotAt, putSlot}
 use Rattle.rules.specs.Choices as rules
 use Rattle.tables.specs.State as tables

@@ -2,18 +2,18 @@
 use crate::turn::Cell;
 use crate::turn::Change;
 use crate::turn::Turn;
-use rules::Answer;
-use rules::Line;
-use rules::Pipe;
-use rules::Place;
-use rules::Refusal;
-use rules::Slot;
-use rules::Step;
-use rules::Token;
 use state::COUNTERS_OF_LINE;
 use state::Figures;
 use tables::Released;
 use tables::Tables;
+use vocabulary::Answer;
+use vocabulary::Line;
+use vocabulary::Pipe;
+use vocabulary::Place;
+use vocabulary::Refusal;
+use vocabulary::Slot;
+use vocabulary::Step;
+use vocabulary::Token;
 ghost use mathlib.Core.Path.{_≡_};
 ghost use Prim.Native.Nat.{_-_, _<_, _≤_};
 ghost use lib.Dec.{eqb};
@@ -185,7 +185,7 @@ pub(crate) fn finish(
     if slot.pipe.0 != 0 {
         return settle(f, slot, line, fallen, t);
     }
-    match tables::release(mem, t, slot.token.0) {
+    match releasing::release(mem, t, slot.token.0) {
         Released::Broken => Turn::Refused(Refusal::Spoiled),
         Released::Passed(after) => settle(f, slot, line, fallen, after),
     }

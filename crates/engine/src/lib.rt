@@ -1,21 +1,17 @@
-// The engine: a run is opened, each choice moves it on, and it can be asked whether it has ended.
+// The engine: each choice moves a run on.
 mod finishing;
 mod starting;
 mod turn;
 
-pub use opening::Opened;
-pub use opening::Opening;
-pub use opening::open;
-use rules::Answer;
-use rules::Line;
-use rules::Refusal;
-use rules::Slot;
-use rules::Slots;
 use state::COUNTERS_OF_LINE;
 use state::Figures;
-pub use state::State;
-pub use state::ended;
+use state::State;
 use turn::Turn;
+use vocabulary::Answer;
+use vocabulary::Line;
+use vocabulary::Refusal;
+use vocabulary::Slot;
+use vocabulary::Slots;
 ghost use mathlib.Core.Path.{_≡_};
 ghost use Rattle.rules.specs.Choices.{choose as chosenBy};
 ghost use Rattle.tables.specs.Calls.{memorySource};
@@ -61,7 +57,7 @@ fn turn_of(f: Figures, slots: Slots, counters: &[u8; 512], mem: &mut [u16], line
     ensures chooses { λ r. ⌜ chosenOf (turned (whole f (now (counters .entry)) slots) (line .0) r) (now (mem .exit)) ≡
         chosenBy memorySource (machineOf (whole f (now (counters .entry)) slots) (now (mem .entry))) (line .0) ⌝ }
 {
-    let seen = state::look_over(f, slots, counters, mem, line.0);
+    let seen = ranges::look_over(f, slots, counters, mem, line.0);
     if !seen.sound {
         return Turn::Refused(Refusal::Spoiled);
     }

@@ -2,20 +2,20 @@
 use crate::turn::Cell;
 use crate::turn::Change;
 use crate::turn::Turn;
-use rules::Answer;
-use rules::Line;
-use rules::Pipe;
-use rules::PipeKind;
-use rules::Place;
-use rules::Refusal;
-use rules::Slot;
-use rules::Step;
-use rules::Token;
 use state::COUNTERS_OF_LINE;
 use state::Figures;
 use tables::Offer;
 use tables::Tables;
 use tables::Taken;
+use vocabulary::Answer;
+use vocabulary::Line;
+use vocabulary::Pipe;
+use vocabulary::PipeKind;
+use vocabulary::Place;
+use vocabulary::Refusal;
+use vocabulary::Slot;
+use vocabulary::Step;
+use vocabulary::Token;
 ghost use mathlib.Core.Path.{_≡_};
 ghost use mathlib.Core.List.{List};
 ghost use Prim.Native.Nat.{ℕ, _<_};
@@ -114,7 +114,7 @@ fn overfull(f: Figures, mem: &[u16]) -> bool
         return false;
     }
     let t = f.tables;
-    match tables::would_take(mem, t) {
+    match taking::would_take(mem, t) {
         Offer::Spoiled => false,
         Offer::Nothing => false,
         Offer::Token(_) => true,
@@ -131,7 +131,7 @@ fn start_first(f: Figures, slot: Slot, mem: &mut [u16], line: Line) -> Turn
         return Turn::Refused(Refusal::Spoiled);
     }
     let t = f.tables;
-    match tables::take(mem, t) {
+    match taking::take(mem, t) {
         Taken::Spoiled => Turn::Refused(Refusal::Spoiled),
         Taken::Nothing(after) => stop(f, slot, line, after),
         Taken::Took(token, after) => start_with(f, line, token, after),

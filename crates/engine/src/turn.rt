@@ -1,8 +1,8 @@
 // A choice is worked out on the parts of a state and made then, so that a state is copied as seldom as can be.
-use rules::Answer;
-use rules::Refusal;
-use rules::Slot;
 use tables::Tables;
+use vocabulary::Answer;
+use vocabulary::Refusal;
+use vocabulary::Slot;
 
 // A counter's place among all counters, and its new value.
 pub struct Cell {

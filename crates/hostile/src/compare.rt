@@ -1,5 +1,5 @@
 // Whether two states, or two memories, are the same.
-use engine::State;
+use state::State;
 use tables::Tables;
 
 fn same_flags(a: [bool; 16], b: [bool; 16]) -> bool {

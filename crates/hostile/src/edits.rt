@@ -8,12 +8,12 @@
 //     !           no damage: line AT is chosen
 use crate::report::Run;
 use crate::stored;
-use engine::State;
-use rules::Line;
-use rules::Pipe;
-use rules::Place;
-use rules::Token;
+use state::State;
 use tables::Tables;
+use vocabulary::Line;
+use vocabulary::Pipe;
+use vocabulary::Place;
+use vocabulary::Token;
 
 // A refused opening's state.
 pub fn zeros() -> State {
@@ -39,58 +39,33 @@ pub fn zeros() -> State {
     }
 }
 
-// The new number if the edit's letter is this one, else the old number.
-fn picked(letter: u8, this: u8, n: u16, old: u16) -> u16 {
-    if letter == this {
-        return n;
-    }
-    old
-}
-
-fn picked_flag(letter: u8, this: u8, n: u16, old: bool) -> bool {
-    if letter == this {
-        return n == 1;
-    }
-    old
-}
-
-fn with_figures(s: State, letter: u8, n: u16) -> State {
+fn with_number(s: State, letter: u8, n: u16) -> State {
     let mut t = s;
-    t.pipes = picked(letter, b'P', n, s.pipes);
-    t.lines = picked(letter, b'L', n, s.lines);
-    t.workers = picked(letter, b'W', n, s.workers);
-    t.placed = picked(letter, b'K', n, s.placed);
-    t
-}
-
-fn edited_tables(t: Tables, letter: u8, n: u16) -> Tables {
-    Tables {
-        tokens: picked(letter, b'N', n, t.tokens),
-        count: picked(letter, b'T', n, t.count),
-        first: picked(letter, b'F', n, t.first),
-        end: picked(letter, b'E', n, t.end),
-        held: picked(letter, b'D', n, t.held),
+    match letter {
+        b'P' => t.pipes = n,
+        b'L' => t.lines = n,
+        b'W' => t.workers = n,
+        b'K' => t.placed = n,
+        b'N' => t.tables.tokens = n,
+        b'T' => t.tables.count = n,
+        b'F' => t.tables.first = n,
+        b'E' => t.tables.end = n,
+        b'D' => t.tables.held = n,
+        _ => {}
     }
-}
-
-fn with_tables(s: State, letter: u8, n: u16) -> State {
-    let mut t = s;
-    let tables = s.tables;
-    t.tables = edited_tables(tables, letter, n);
     t
 }
 
 fn with_slot(s: State, letter: u8, at: usize, n: u16) -> State {
     let mut t = s;
     if at < 32 {
-        let pipe = Pipe(picked(letter, b'p', n, s.at[at].0));
-        let token = Token(picked(letter, b't', n, s.token[at].0));
-        let place = Place(picked(letter, b'k', n, s.place[at].0));
-        t.at[at] = pipe;
-        t.running[at] = picked_flag(letter, b'r', n, s.running[at]);
-        t.token[at] = token;
-        t.place[at] = place;
-        return t;
+        match letter {
+            b'p' => t.at[at] = Pipe(n),
+            b'r' => t.running[at] = n == 1,
+            b't' => t.token[at] = Token(n),
+            b'k' => t.place[at] = Place(n),
+            _ => {}
+        }
     }
     t
 }
@@ -99,7 +74,6 @@ fn with_flag(s: State, at: usize, flag: bool) -> State {
     let mut t = s;
     if at < 16 {
         t.serial[at] = flag;
-        return t;
     }
     t
 }
@@ -108,32 +82,24 @@ fn with_counter(s: State, at: usize, n: u8) -> State {
     let mut t = s;
     if at < 512 {
         t.counters[at] = n;
-        return t;
     }
     t
 }
 
 fn edited_state(s: State, letter: u8, at: usize, n: u16) -> State {
-    if letter == b'Z' {
-        return zeros();
+    match letter {
+        b'Z' => zeros(),
+        b'S' => with_flag(s, at, n == 1),
+        b'C' => with_counter(s, at, (n % 256) as u8),
+        b'a'..=b'z' => with_slot(s, letter, at, n),
+        _ => with_number(s, letter, n),
     }
-    if letter == b'S' {
-        return with_flag(s, at, n == 1);
-    }
-    if letter == b'C' {
-        return with_counter(s, at, (n % 256) as u8);
-    }
-    if b'a' <= letter {
-        return with_slot(s, letter, at, n);
-    }
-    with_tables(with_figures(s, letter, n), letter, n)
 }
 
 fn edited_memory(mem: [u16; 32768], at: usize, n: u16) -> [u16; 32768] {
     let mut t = mem;
     if at < 32768 {
         t[at] = n;
-        return t;
     }
     t
 }

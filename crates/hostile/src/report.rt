@@ -1,8 +1,8 @@
 // What is said of each try: the number that the engine answers (0 for an event), and what became of state and memory.
-use engine::Opening;
-use engine::State;
 use libc::STDOUT_FILENO;
-use rules::Answer;
+use opening::Opening;
+use state::State;
+use vocabulary::Answer;
 
 // A state with its memory.
 pub struct Run {

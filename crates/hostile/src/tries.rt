@@ -11,9 +11,9 @@ use crate::report::Run;
 use crate::report::Trial;
 use crate::stored;
 use engine::Chosen;
-use engine::Opened;
-use engine::State;
-use rules::Line;
+use opening::Opened;
+use state::State;
+use vocabulary::Line;
 
 fn memory_of_zeros() -> [u16; 32768] {
     [0u16; 32768]
@@ -26,7 +26,7 @@ fn memory_of_sevens() -> [u16; 32768] {
 // The run at opening, with 2 workers.
 fn opened(file: &[u8]) -> Run {
     let mut mem = memory_of_zeros();
-    let opened = engine::open(file, 2, &mut mem);
+    let opened = opening::open(file, 2, &mut mem);
     let state = opened.state;
     Run {
         state: state,
@@ -53,7 +53,7 @@ fn choose(state: State, mem: &mut [u16], line: u16, short: bool) -> Chosen {
 
 fn open(file: &[u8], workers: u16, mem: &mut [u16], short: bool) -> Opened {
     let count = lent(mem.len(), short);
-    engine::open(file, workers, &mut mem[..count])
+    opening::open(file, workers, &mut mem[..count])
 }
 
 fn chosen_trial(before: State, chosen: Chosen, memory: bool) -> Trial {
@@ -92,16 +92,12 @@ fn opening(file: &[u8], workers: u16, short: bool) -> Trial {
 }
 
 fn tried(verb: u8, n: u16, run: Run, file: &[u8]) -> Trial {
-    if verb == b'c' {
-        return choice(run, n, false);
+    match verb {
+        b'c' => choice(run, n, false),
+        b'C' => choice(run, n, true),
+        b'e' => opening(b"", n, false),
+        _ => opening(file, n, verb == b'O'),
     }
-    if verb == b'C' {
-        return choice(run, n, true);
-    }
-    if verb == b'e' {
-        return opening(b"", n, false);
-    }
-    opening(file, n, verb == b'O')
 }
 
 // The next try, if there is one.

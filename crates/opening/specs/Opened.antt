@@ -1,24 +1,20 @@
 -- Opening a run: its answer, the state and the memory.
-use mathlib.Core.Path.{_≡_}
 use mathlib.Core.Bool.{Bool, false}
 use mathlib.Core.List.{List}
-use Prim.Native.Nat.{ℕ, _≤_}
-use lib.ListN.{length, getD, replicate}
-use Rattle.rules.specs.declared.refusal.Refusal.{Refusal}
+use Prim.Native.Nat.{ℕ}
+use lib.ListN.{getD, replicate}
+use Rattle.vocabulary.specs.declared.refusal.Refusal.{Refusal}
 use Rattle.rules.specs.RunState.{Machine, allIdle}
 use Rattle.rules.specs.Choices.{openedCounter, tabled, opened}
-use Rattle.rules.specs.WholeRuns.{WorkersInRange}
-use Rattle.plan.specs.Plan.{Plan, Valid, encode}
+use Rattle.plan.specs.Plan.{Plan}
 use Rattle.plan.specs.Reading.{Outcome, accepted, refused}
 use Rattle.tables.specs.State as tables
-use Rattle.opening.specs.Plans.{pipelineOf}
-use Rattle.opening.specs.Demands.{Demands}
-use Rattle.opening.specs.Layout.{laidOut}
-use Rattle.opening.specs.Loading.{loadOf}
-use Rattle.state.specs.Machines.{machineOf}
+use Rattle.loading.specs.Plans.{pipelineOf}
+use Rattle.loading.specs.Layout.{laidOut}
+use Rattle.loading.specs.Loading.{loadOf}
 use Rattle.state.specs.declared.State.{State}
-use Rattle.opening.specs.declared.beginning.Opening.{Opening}
-use Rattle.opening.specs.declared.beginning.Opened.{Opened}
+use Rattle.opening.specs.declared.Opening.{Opening}
+use Rattle.opening.specs.declared.Opened.{Opened}
 
 -- the state of a machine
 abbrev pub stateOf : Machine tables.State → State
@@ -78,13 +74,3 @@ openedBy (accepted p) workers m = openedWith p workers m
 -- what opening returns, and what it leaves in memory
 abbrev pub openOf : List ℕ → ℕ → List ℕ → Opened × List ℕ
 openOf file workers m = (openedBy (loadOf file workers m .0) workers m, loadOf file workers m .1)
-
--- an accepted opening: the plan, the machine that it leaves, and what holds of every run from there
-pub record OpenedRun (file : List ℕ) (workers : ℕ) (m : List ℕ) : Type 0 where
-  pub plan : Plan
-  pub valid : Valid plan
-  pub file-is : file ≡ encode plan
-  pub manned : WorkersInRange workers
-  pub enough : 32768 ≤ length m
-  pub machine : machineOf (openOf file workers m .0 .state) (openOf file workers m .1) ≡ openedMachine plan workers m
-  pub demands : Demands plan

@@ -4,18 +4,18 @@ ghost use mathlib.Core.List.{map};
 ghost use Prim.Native.Nat.{_+_, _≤_};
 ghost use lib.ListN.{length};
 ghost use Rattle.rules.specs.Choices.{openedCounter};
-ghost use Rattle.rules.specs.PipeKinds.{kindOf};
-ghost use Rattle.opening.specs.Plans.{serialOf};
+ghost use Rattle.vocabulary.specs.PipeKinds.{kindOf};
+ghost use Rattle.loading.specs.Plans.{serialOf};
 ghost use Rattle.opening.specs.Opened.{openedCounters, freshState};
-use rules::Pipe;
-use rules::PipeKind;
-use rules::Place;
-use rules::Token;
 use state::COUNTERS;
 use state::COUNTERS_OF_LINE;
 use state::FLAGS;
 use state::SLOTS;
 use state::State;
+use vocabulary::Pipe;
+use vocabulary::PipeKind;
+use vocabulary::Place;
+use vocabulary::Token;
 
 // Which pipes are serial, by their file bytes.
 pub(crate) fn serials(bytes: &[u8]) -> [bool; 16]

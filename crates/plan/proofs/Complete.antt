@@ -5,19 +5,19 @@ use Prim.Native.Nat.{suc, _+_, _-_, _≤_, _<_}
 use native.Mathlib.Omega.{arith}
 use lib.ListN.{length, drop, length-append, length-map}
 use lib.Seq.{take-at, drop-at, drop-drop}
-use Rattle.plan.specs.Bytes.{fieldBytes}
+use Rattle.fields.specs.Bytes.{fieldBytes}
 use Rattle.plan.specs.Checks.{both}
 use Rattle.plan.specs.Plan.{Plan, Valid, FirstSerial, recordsBytes, headerOf, trailerFields, encode}
-use Rattle.rules.specs.PipeKinds.{byteOf}
+use Rattle.vocabulary.specs.PipeKinds.{byteOf}
 use Rattle.rules.specs.Lists.{Every}
 use Rattle.plan.specs.Trailer.{headerAt, trailerOf, headerCheck}
-use Rattle.rules.specs.PipeKinds.{kindOf}
+use Rattle.vocabulary.specs.PipeKinds.{kindOf}
 use Rattle.plan.specs.Records.{recordsCheck, recordsOf}
 use Rattle.plan.specs.Reading.{recordPart, pipePart, partsCheck, checkOf, planWith, planOf}
-use Rattle.rules.specs.declared.pipe_kind.PipeKind.{PipeKind}
+use Rattle.vocabulary.specs.declared.pipe_kind.PipeKind.{PipeKind}
 use Rattle.plan.specs.declared.trailer.Header.{Header}
 use Rattle.plan.specs.declared.verdict.Check.the-variants.{Passed}
-use Rattle.plan.proofs.Fields.{joined, length-fieldBytes}
+use Rattle.fields.proofs.Fields.{joined, length-fieldBytes}
 use Rattle.plan.proofs.Facts.{HeaderFacts, header-passes}
 use Rattle.plan.proofs.Steps.{after-size}
 use Rattle.plan.proofs.CompleteParts.{kinds-complete, pipes-complete, records-complete, few-records, length-records}

@@ -6,17 +6,17 @@ use native.Mathlib.Omega.{arith}
 use borrow.Author.Tests.{le-leb, eq-eqb, ne-eqb}
 use lib.ListN.{length, length-append}
 use lib.Seq.{take-at, drop-at}
-use Rattle.plan.specs.Bytes.{fieldBytes}
+use Rattle.fields.specs.Bytes.{fieldBytes}
 use Rattle.plan.specs.Plan.{Record, ValidRecord, FirstSerial, AscendingFrom, total, recordBytes, recordsBytes}
-use Rattle.rules.specs.PipeKinds.{byteOf}
+use Rattle.vocabulary.specs.PipeKinds.{byteOf}
 use Rattle.rules.specs.Lists.{Every}
 use Rattle.plan.specs.Pipes.{kindsCheck, pipesCheck}
-use Rattle.rules.specs.PipeKinds.{kindOf}
+use Rattle.vocabulary.specs.PipeKinds.{kindOf}
 use Rattle.plan.specs.Records.{numbersFrom, tokenOf, countOf, numbersOf, recordOf, afterRecord, recordsFrom, recordsOf}
-use Rattle.rules.specs.declared.pipe_kind.PipeKind.{PipeKind}
-use Rattle.rules.specs.declared.pipe_kind.PipeKind.the-variants.{Serial, Parallel}
+use Rattle.vocabulary.specs.declared.pipe_kind.PipeKind.{PipeKind}
+use Rattle.vocabulary.specs.declared.pipe_kind.PipeKind.the-variants.{Serial, Parallel}
 use Rattle.plan.specs.declared.verdict.Check.the-variants.{Passed}
-use Rattle.plan.proofs.Fields.{joined, bytes-fields, length-fieldBytes}
+use Rattle.fields.proofs.Fields.{joined, bytes-fields, length-fieldBytes}
 use Rattle.plan.proofs.Facts.{RecordFacts, record-passes}
 use Rattle.plan.proofs.Steps.{records-step, records-more}
 

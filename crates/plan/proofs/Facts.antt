@@ -14,8 +14,8 @@ use Rattle.plan.specs.Pipes.{kindsCheck, pipesCheck}
 use Rattle.plan.specs.Records.{tokenOf, countOf, numbersOf, numbersFrom, recordCheck, recordsCheck}
 use Rattle.plan.specs.Reading.{partsCheck, checkOf, pipePart, recordPart}
 use Rattle.plan.specs.declared.trailer.Header.{Header}
-use Rattle.rules.specs.declared.refusal.Refusal.{Refusal}
-use Rattle.rules.specs.declared.refusal.Refusal.the-variants.{FileSize, Pipes}
+use Rattle.vocabulary.specs.declared.refusal.Refusal.{Refusal}
+use Rattle.vocabulary.specs.declared.refusal.Refusal.the-variants.{FileSize, Pipes}
 use Rattle.plan.specs.declared.verdict.Check.{Check}
 use Rattle.plan.specs.declared.verdict.Check.the-variants.{Passed, Failed}
 use Rattle.rules.proofs.lists.Tests.{tests}

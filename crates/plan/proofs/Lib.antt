@@ -1,8 +1,7 @@
 -- The reader reads exactly the files of valid plans. Reading order: what a passed check tells, and what makes it pass;
 pub mod Facts
--- the checks one step at a time, as the code makes them, and fields with their bytes;
+-- the checks one step at a time, as the code makes them;
 pub mod Steps
-pub mod Fields
 -- what passes is the file of a valid plan;
 pub mod SoundParts
 pub mod Sound

@@ -9,17 +9,17 @@ use lib.Dec.{eqb}
 use lib.ListN.{length, getD, take, drop, length-drop, take-append-drop}
 use lib.Seq.{take-add, length-take-le}
 use Rattle.rules.specs.Lists.{if}
-use Rattle.plan.specs.Bytes.{fields, fieldBytes, Bytes}
+use Rattle.fields.specs.Bytes.{fields, fieldBytes, Bytes}
 use Rattle.plan.specs.Plan.{Record, ValidRecord, FirstSerial, AscendingFrom, total, recordBytes, recordsBytes}
-use Rattle.rules.specs.PipeKinds.{byteOf}
+use Rattle.vocabulary.specs.PipeKinds.{byteOf}
 use Rattle.rules.specs.Lists.{Every}
 use Rattle.plan.specs.Pipes.{kindsCheck}
-use Rattle.rules.specs.PipeKinds.{pipeOf, isKnown, kindOf}
+use Rattle.vocabulary.specs.PipeKinds.{pipeOf, isKnown, kindOf}
 use Rattle.plan.specs.Records.{numbersFrom, tokenOf, countOf, numbersOf, recordOf, afterRecord, recordsFrom, recordsOf}
-use Rattle.rules.specs.declared.pipe_kind.PipeKind.the-variants.{Serial, Parallel}
-use Rattle.rules.specs.declared.pipe_kind.PipeByte.the-variants.{Known, Unknown}
+use Rattle.vocabulary.specs.declared.pipe_kind.PipeKind.the-variants.{Serial, Parallel}
+use Rattle.vocabulary.specs.declared.pipe_kind.PipeByte.the-variants.{Known, Unknown}
 use Rattle.plan.specs.declared.verdict.Check.the-variants.{Passed}
-use Rattle.plan.proofs.Fields.{low, high, take-bytes, drop-bytes, fields-bytes, length-fields, fields-fit}
+use Rattle.fields.proofs.Fields.{low, high, take-bytes, drop-bytes, fields-bytes, length-fields, fields-fit}
 use Rattle.plan.proofs.Facts.{failed, must-passed, both-passed, RecordFacts, record-passed}
 use Rattle.plan.proofs.Steps.{records-step, records-more}
 

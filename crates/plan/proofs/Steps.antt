@@ -8,26 +8,35 @@ use native.Mathlib.Omega.{arith}
 use lib.Dec.{leb, eqb}
 use lib.ListN.{length, getD, take, drop, drop-of-length-le, length-drop}
 use lib.Seq.{drop-cons, drop-drop, take-all}
-use borrow.Author.Tests.{le-leb, ne-eqb}
-use Rattle.plan.specs.Bytes.{fieldAt, fields}
+use borrow.Author.Tests.{lt-ltb, le-leb, ne-eqb}
+use Rattle.fields.specs.Bytes.{fieldAt, fields}
+use Rattle.fields.proofs.Fields.{fields-turn, fields-end}
 use Rattle.rules.specs.Lists.{must}
 use Rattle.plan.specs.Checks.{both}
 use Rattle.plan.specs.Trailer.{trailerOf, headerCheck}
 use Rattle.plan.specs.Pipes.{kindsCheck}
-use Rattle.rules.specs.PipeKinds.{isKnown, pipeOf}
-use Rattle.plan.specs.Records.{numbersFrom, tokenOf, countOf, afterRecord, recordCheck, recordsFrom, recordOf, recordsOf}
+use Rattle.vocabulary.specs.PipeKinds.{isKnown, pipeOf}
+use Rattle.plan.specs.Records.{numbersFrom, tokenOf, countOf, numbersOf, afterRecord, recordCheck, recordsFrom, recordOf, recordsOf}
 use Rattle.plan.specs.Reading.{partsCheck, checkOf}
-use Rattle.rules.specs.declared.pipe_kind.PipeKind.{PipeKind}
-use Rattle.rules.specs.declared.pipe_kind.PipeByte.the-variants.{Known, Unknown}
-use Rattle.rules.specs.declared.refusal.Refusal.the-variants.{Pipes, RecordLayout, ListsItself}
+use Rattle.vocabulary.specs.declared.pipe_kind.PipeKind.{PipeKind}
+use Rattle.vocabulary.specs.declared.pipe_kind.PipeByte.the-variants.{Known, Unknown}
+use Rattle.vocabulary.specs.declared.refusal.Refusal.the-variants.{Pipes, RecordLayout, ListsItself, TotalCount}
 use Rattle.plan.specs.declared.verdict.Check.the-variants.{Passed, Failed}
 
--- fewer than two bytes hold no field
-no-field : (s : List ℕ) → length s ≤ 1 → fields s ≡ []
-unfolding fields
-no-field [] h = refl
-no-field (b ∷ []) h = refl
-no-field (b ∷ c ∷ s) h = absurd (omega arith)
+-- a record whose token, count and size are right: the running total, and then its numbers
+pub record-laid : (tokens floor before : ℕ) (s : List ℕ) → 4 ≤ length s → floor ≤ tokenOf s → tokenOf s < tokens → 1 ≤ countOf s → countOf s ≤ 16 →
+    4 + 2 * countOf s ≤ length s →
+    recordCheck tokens floor before s ≡ must (leb (before + countOf s) 8192) (Failed TotalCount) (numbersFrom (tokenOf s) 0 (numbersOf s))
+unfolding recordCheck
+record-laid tokens floor before s a b c d e f =
+    rw (
+      le-leb 4 (length s) a,
+      le-leb floor (tokenOf s) b,
+      lt-ltb (tokenOf s) tokens c,
+      le-leb 1 (countOf s) d,
+      le-leb (countOf s) 16 e,
+      le-leb (4 + 2 * countOf s) (length s) f,
+    )
 
 -- the first record, and those after it
 pub records-step : (tokens records most found floor before : ℕ) (s : List ℕ) → (length s ≡ 0 → ⊥) →
@@ -67,17 +76,6 @@ module _ (s : List ℕ) (i : ℕ) where
   unfolding kindsCheck
   kinds-end h = rw (drop-of-length-le s h)
 
-  -- the field at i, and those after it
-  pub fields-turn : i + 1 < length s → fields (drop i s) ≡ fieldAt s i ∷ fields (drop (i + 2) s)
-  unfolding fields
-  fields-turn h =
-      let p : i < length s = omega arith in
-      let q : suc i < length s = omega arith in
-      rw (add-one, add-two, drop-cons s i 0, drop-cons s (suc i) 0)
-
-  pub fields-end : length s ≤ i + 1 → fields (drop i s) ≡ []
-  fields-end h = no-field (drop i s) (simp length-drop (omega arith))
-
   module _ (token floor : ℕ) where
     -- the number at i, and those after it
     pub numbers-turn : i + 1 < length s → numbersFrom token floor (fields (drop i s))
@@ -85,11 +83,11 @@ module _ (s : List ℕ) (i : ℕ) where
         (must (not (eqb (fieldAt s i) token)) (Failed ListsItself)
         (numbersFrom token (fieldAt s i + 1) (fields (drop (i + 2) s))))
     unfolding numbersFrom
-    numbers-turn h = rw (fields-turn h, add-one (fieldAt s i))
+    numbers-turn h = rw (fields-turn s i h, add-one (fieldAt s i))
 
     pub numbers-end : length s ≤ i + 1 → numbersFrom token floor (fields (drop i s)) ≡ Passed
     unfolding numbersFrom
-    numbers-end h = rw (fields-end h)
+    numbers-end h = rw (fields-end s i h)
 
   module _ (tokens records found floor before : ℕ) where
     -- the record at i, and those after it

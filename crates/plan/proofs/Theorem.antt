@@ -5,18 +5,18 @@ use mathlib.Core.List.{List, [], _∷_, _++_, map}
 use Prim.Native.Nat.{ℕ, zero, suc, _≤_}
 use native.Mathlib.Omega.{arith}
 use lib.ListN.{length}
-use Rattle.plan.specs.Bytes.{Bytes}
+use Rattle.fields.specs.Bytes.{Bytes}
 use Rattle.plan.specs.Plan.{Plan, Record, Valid, ValidRecord, recordBytes, recordsBytes, headerOf, trailerFields, encode}
-use Rattle.rules.specs.PipeKinds.{byteOf}
+use Rattle.vocabulary.specs.PipeKinds.{byteOf}
 use Rattle.rules.specs.Lists.{Every}
 use Rattle.plan.specs.Reading.{checkOf, planOf, Outcome, accepted, refused, outcome, readOf, readingOf}
-use Rattle.rules.specs.declared.pipe_kind.PipeKind.{PipeKind}
-use Rattle.rules.specs.declared.pipe_kind.PipeKind.the-variants.{Serial, Parallel}
+use Rattle.vocabulary.specs.declared.pipe_kind.PipeKind.{PipeKind}
+use Rattle.vocabulary.specs.declared.pipe_kind.PipeKind.the-variants.{Serial, Parallel}
 use Rattle.plan.specs.declared.trailer.Header.{Header}
 use Rattle.plan.specs.declared.Reading.the-variants.{Accepted}
 use Rattle.plan.specs.declared.verdict.Check.{Check}
 use Rattle.plan.specs.declared.verdict.Check.the-variants.{Passed, Failed}
-use Rattle.plan.proofs.Fields.{fieldBytes-bytes}
+use Rattle.fields.proofs.Fields.{fieldBytes-bytes}
 use Rattle.plan.proofs.Sound.{encode-is, valid-is}
 use Rattle.plan.proofs.Complete.{check-is, plan-is, trailer-fits}
 

@@ -1,6 +1,5 @@
--- The plan file (01, "The plan file" and "When the engine says no", 1 to 7). Reading order: two-byte fields;
-pub mod Bytes
--- a plan, when it is valid, and its file;
+-- The plan file (01, "The plan file" and "When the engine says no", 1 to 7). Reading order: a plan, when it
+-- is valid, and its file, whose two-byte fields are those of `fields`;
 pub mod Plan
 -- the checks: one after the other, of the trailer, of the pipe bytes, of the records;
 pub mod Checks

@@ -3,9 +3,9 @@ use mathlib.Core.List.{List, [], _∷_}
 use Prim.Native.Nat.{ℕ}
 use lib.Dec.{eqb}
 use lib.ListN.{getD}
-use Rattle.rules.specs.PipeKinds.{pipeOf, isKnown}
+use Rattle.vocabulary.specs.PipeKinds.{pipeOf, isKnown}
 use Rattle.rules.specs.Lists.{must}
-use Rattle.rules.specs.declared.refusal.Refusal.the-variants.{Pipes}
+use Rattle.vocabulary.specs.declared.refusal.Refusal.the-variants.{Pipes}
 use Rattle.plan.specs.declared.verdict.Check.{Check}
 use Rattle.plan.specs.declared.verdict.Check.the-variants.{Passed, Failed}
 

@@ -4,10 +4,10 @@ use mathlib.Core.List.{List, [], _∷_, _++_, map}
 use Prim.Native.Nat.{ℕ, suc, _+_, _≤_, _<_}
 use lib.ListN.{length}
 use Rattle.rules.specs.Lists.{Every}
-use Rattle.rules.specs.PipeKinds.{byteOf}
-use Rattle.plan.specs.Bytes.{fieldBytes}
-use Rattle.rules.specs.declared.pipe_kind.PipeKind.{PipeKind}
-use Rattle.rules.specs.declared.pipe_kind.PipeKind.the-variants.{Serial}
+use Rattle.vocabulary.specs.PipeKinds.{byteOf}
+use Rattle.fields.specs.Bytes.{fieldBytes}
+use Rattle.vocabulary.specs.declared.pipe_kind.PipeKind.{PipeKind}
+use Rattle.vocabulary.specs.declared.pipe_kind.PipeKind.the-variants.{Serial}
 use Rattle.plan.specs.declared.trailer.Header.{Header}
 
 -- a deferral record: a token and the numbers that it defers to

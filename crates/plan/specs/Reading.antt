@@ -8,10 +8,10 @@ use Rattle.plan.specs.Checks.{both}
 use Rattle.plan.specs.Plan.{Plan, headerOf}
 use Rattle.plan.specs.Trailer.{trailerOf, headerCheck}
 use Rattle.plan.specs.Pipes.{pipesCheck}
-use Rattle.rules.specs.PipeKinds.{kindOf}
+use Rattle.vocabulary.specs.PipeKinds.{kindOf}
 use Rattle.plan.specs.Records.{recordsCheck, recordsIn}
-use Rattle.rules.specs.declared.refusal.Refusal.{Refusal}
-use Rattle.rules.specs.declared.refusal.Refusal.the-variants.{FileSize}
+use Rattle.vocabulary.specs.declared.refusal.Refusal.{Refusal}
+use Rattle.vocabulary.specs.declared.refusal.Refusal.the-variants.{FileSize}
 use Rattle.plan.specs.declared.verdict.Check.{Check}
 use Rattle.plan.specs.declared.verdict.Check.the-variants.{Passed, Failed}
 use Rattle.plan.specs.declared.trailer.Header.{Header}

@@ -5,11 +5,11 @@ use Prim.Native.Nat.{ℕ, zero, suc, _+_, _*_}
 use lib.Dec.{leb, ltb, eqb}
 use lib.ListN.{length, take, drop}
 use Rattle.rules.specs.Lists.{if}
-use Rattle.plan.specs.Bytes.{fieldAt, fields}
+use Rattle.fields.specs.Bytes.{fieldAt, fields}
 use Rattle.rules.specs.Lists.{must}
 use Rattle.plan.specs.Checks.{both}
 use Rattle.plan.specs.Plan.{Record}
-use Rattle.rules.specs.declared.refusal.Refusal.the-variants.{RecordLayout, ListsItself, TotalCount}
+use Rattle.vocabulary.specs.declared.refusal.Refusal.the-variants.{RecordLayout, ListsItself, TotalCount}
 use Rattle.plan.specs.declared.verdict.Check.{Check}
 use Rattle.plan.specs.declared.verdict.Check.the-variants.{Passed, Failed}
 

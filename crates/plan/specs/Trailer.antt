@@ -3,9 +3,9 @@ use mathlib.Core.List.{List}
 use Prim.Native.Nat.{ℕ, _+_, _-_}
 use lib.Dec.{leb, eqb}
 use lib.ListN.{length, drop}
-use Rattle.plan.specs.Bytes.{fieldAt}
+use Rattle.fields.specs.Bytes.{fieldAt}
 use Rattle.rules.specs.Lists.{must}
-use Rattle.rules.specs.declared.refusal.Refusal.the-variants.{PartSizes, Limits}
+use Rattle.vocabulary.specs.declared.refusal.Refusal.the-variants.{PartSizes, Limits}
 use Rattle.plan.specs.declared.verdict.Check.{Check}
 use Rattle.plan.specs.declared.verdict.Check.the-variants.{Passed, Failed}
 use Rattle.plan.specs.declared.trailer.Header.{Header}

@@ -9,10 +9,10 @@ mod records;
 mod trailer;
 mod verdict;
 
-use rules::Refusal;
+pub use fields::field_or_zero;
 pub use trailer::Header;
-pub use trailer::field_or_zero;
 pub use verdict::Check;
+use vocabulary::Refusal;
 
 // What reading a file finds.
 pub enum Reading {

@@ -2,9 +2,9 @@
 ghost use mathlib.Core.Path.{_≡_};
 ghost use Rattle.plan.specs.Pipes.{kindsCheck, pipesCheck};
 use crate::verdict::Check;
-use rules::PipeByte;
-use rules::PipeKind;
-use rules::Refusal;
+use vocabulary::PipeByte;
+use vocabulary::PipeKind;
+use vocabulary::Refusal;
 
 // Each byte stands for a kind.
 fn check_kinds(bytes: &[u8]) -> Check

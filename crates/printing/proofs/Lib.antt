@@ -1,4 +1,5 @@
--- The buffer of a sink, and its digest;
-pub mod buffer
--- and the program's lines.
-pub mod lines
+-- The program's lines. Reading order:
+-- a number's digits as `io` tells them are its decimal digits;
+pub mod Decimal
+-- and the lines, put together of texts.
+pub mod Lines

@@ -1,4 +1,2 @@
--- Where output goes;
-pub mod Sinks
--- and the program's lines, as texts.
+-- The program's lines, as texts.
 pub mod Texts

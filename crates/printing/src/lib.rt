@@ -1,6 +1,4 @@
-// The program's lines, and where they go: which bytes wait in the buffer then, or what digest they have. What standard output is
-// sent is no part of a contract. A crate apart from `session`, whose must-fail edits would each check it again.
-mod sink;
+// The program's lines, as they are put into a sink. A crate apart from `session`, whose must-fail edits would each check it again.
 mod text;
 
 pub use sink::Sink;

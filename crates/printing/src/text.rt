@@ -1,13 +1,14 @@
 // The program's lines: letters, numbers in decimal, single spaces, and a newline at the end of each.
-use crate::Sink;
-use rules::Answer;
-use rules::Refusal;
-use rules::Step;
+use sink::Sink;
+use vocabulary::Answer;
+use vocabulary::Refusal;
+use vocabulary::Step;
 ghost use mathlib.Core.Path.{_≡_};
+ghost use mathlib.Core.List.{_∷_, _++_};
 ghost use Rattle.rules.specs.Answers.{answerOf};
-ghost use Rattle.rules.specs.Refusals.{numberOf};
-ghost use Rattle.printing.specs.Sinks.{putEach};
-ghost use Rattle.printing.specs.Texts.{numberTexts, refusalTexts, stepTexts, answerTexts};
+ghost use Rattle.vocabulary.specs.Refusals.{numberOf};
+ghost use Rattle.sink.specs.Sinks.{putEach};
+ghost use Rattle.printing.specs.Texts.{newline, numberTexts, refusalTexts, stepTexts, answerTexts};
 
 // A space and a number.
 pub fn put_number(sink: Sink, out: &mut [u8], n: u64) -> Sink
@@ -19,14 +20,20 @@ pub fn put_number(sink: Sink, out: &mut [u8], n: u64) -> Sink
     spaced.put(out, &digits[..k])
 }
 
+// A line of one number: `X l` or `R n`.
+fn put_short(sink: Sink, out: &mut [u8], letter: &[u8], n: u64) -> Sink
+    ensures { λ r. ⌜ (r, now (out .exit)) ≡ putEach (sink, now (out .entry)) (now (letter .entry) ∷ (numberTexts n ++ newline)) ⌝ }
+{
+    let s = sink.put(out, letter);
+    let s = put_number(s, out, n);
+    s.put(out, b"\n")
+}
+
 // `R n`
 pub fn put_refusal(sink: Sink, out: &mut [u8], why: Refusal) -> Sink
     ensures { λ r. ⌜ (r, now (out .exit)) ≡ putEach (sink, now (out .entry)) (refusalTexts (numberOf why)) ⌝ }
 {
-    let n = why.number();
-    let s = sink.put(out, b"R");
-    let s = put_number(s, out, n as u64);
-    s.put(out, b"\n")
+    put_short(sink, out, b"R", why.number() as u64)
 }
 
 // ` l p t k`: line, pipe, token and place.
@@ -40,17 +47,22 @@ fn put_step(sink: Sink, out: &mut [u8], step: Step) -> Sink
     s.put(out, b"\n")
 }
 
+// A line of a step: `S l p t k` or `F l p t k`.
+fn put_event(sink: Sink, out: &mut [u8], letter: &[u8], step: Step) -> Sink
+    ensures { λ r. ⌜ (r, now (out .exit)) ≡ putEach (sink, now (out .entry)) (now (letter .entry) ∷ stepTexts (step .line .0) (step .pipe .0) (step .token .0) (step .place .0)) ⌝ }
+{
+    let s = sink.put(out, letter);
+    put_step(s, out, step)
+}
+
 // `S l p t k`, `F l p t k`, `X l` or `R n`
 pub fn put_answer(sink: Sink, out: &mut [u8], answer: Answer) -> Sink
     ensures { λ r. ⌜ (r, now (out .exit)) ≡ putEach (sink, now (out .entry)) (answerTexts (answerOf answer)) ⌝ }
 {
     match answer {
-        Answer::Started(step) => put_step(sink.put(out, b"S"), out, step),
-        Answer::Finished(step) => put_step(sink.put(out, b"F"), out, step),
-        Answer::Stopped(line) => {
-            let s = put_number(sink.put(out, b"X"), out, line.0 as u64);
-            s.put(out, b"\n")
-        }
+        Answer::Started(step) => put_event(sink, out, b"S", step),
+        Answer::Finished(step) => put_event(sink, out, b"F", step),
+        Answer::Stopped(line) => put_short(sink, out, b"X", line.0 as u64),
         Answer::Refused(why) => put_refusal(sink, out, why),
     }
 }

@@ -1,8 +1,8 @@
 -- The paper's values for each case of an answer (01, "Choices and join counters" and "When the engine says no").
 use Rattle.rules.specs.Choices as paper
-use Rattle.rules.specs.Refusals.{numberOf}
-use Rattle.rules.specs.declared.answer.Answer.{Answer}
-use Rattle.rules.specs.declared.answer.Answer.the-variants.{Started, Finished, Stopped, Refused}
+use Rattle.vocabulary.specs.Refusals.{numberOf}
+use Rattle.vocabulary.specs.declared.answer.Answer.{Answer}
+use Rattle.vocabulary.specs.declared.answer.Answer.the-variants.{Started, Finished, Stopped, Refused}
 
 -- line, pipe, token and place; the line; or the refusal's number
 unfoldable pub answerOf : Answer → paper.Answer

@@ -8,8 +8,8 @@ use Rattle.rules.specs.Lists.{if, must, mustNot, all, table}
 use Rattle.rules.specs.Sources.{Source, Taken, Spoiled, Nothing, Took, Released, Broken, Passed}
 use Rattle.rules.specs.RunState.{Pipeline, Machine, idle, runs, waits, slotAt, putSlot, allIdle, counterAt, slotOf, counterOf, isSerial, full}
 use Rattle.rules.specs.Ranges.{sound}
-use Rattle.rules.specs.declared.Slot.{Slot}
-use Rattle.rules.specs.declared.Slots.{Slots}
+use Rattle.vocabulary.specs.declared.Slot.{Slot}
+use Rattle.vocabulary.specs.declared.Slots.{Slots}
 
 -- "An accepted choice returns Started or Finished with line, pipe, token, place, or Stopped with line";
 -- any other returns the number of the first rule broken

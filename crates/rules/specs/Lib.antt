@@ -1,8 +1,5 @@
 -- The rules of document 01 as definitions. Reading order: what they are written with;
 pub mod Lists
--- the numbers and kinds of the paper ("When the engine says no", "The plan file");
-pub mod Refusals
-pub mod PipeKinds
 -- "Taking tokens";
 pub mod TakingTokens
 -- "Choices and join counters", over any source of tokens;

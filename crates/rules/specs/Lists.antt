@@ -3,11 +3,7 @@ use mathlib.Core.Bool.{Bool, true, false}
 use mathlib.Core.List.{List, [], _∷_}
 use Prim.Native.Nat.{ℕ, zero, suc, _+_, _<_}
 use lib.Dec.{eqb, leb}
-
--- by a test: the first where it holds, else the second
-abbrev pub if : {A : Type 0} → Bool → A → A → A
-if true a b = a
-if false a b = b
+pub use Rattle.vocabulary.specs.Branches.{if}
 
 -- a chain of rules, in their order: where a test that must hold fails, what is returned instead of all that follows
 abbrev pub must : {A : Type 0} → Bool → A → A → A

@@ -7,8 +7,8 @@ use lib.ListN.{getD}
 use Rattle.rules.specs.Lists.{if, must, all, within, every}
 use Rattle.rules.specs.Sources.{Source}
 use Rattle.rules.specs.RunState.{Machine, slotAt, isSerial, full}
-use Rattle.rules.specs.declared.Slot.{Slot}
-use Rattle.rules.specs.declared.Slots.{Slots}
+use Rattle.vocabulary.specs.declared.Slot.{Slot}
+use Rattle.vocabulary.specs.declared.Slots.{Slots}
 
 -- a slot is that of a line that waits at pipe 0 with no token
 unfoldable pub isIdle : Slot → Bool

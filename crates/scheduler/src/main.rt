@@ -19,7 +19,7 @@ fn feed_some(session: Session, mem: &mut [u16], out: &mut [u8]) -> Turn {
             session: session,
         };
     }
-    let fed = session::feed(session, &input[..got], mem, out);
+    let fed = feeding::feed(session, &input[..got], mem, out);
     Turn {
         more: true,
         session: fed,
@@ -50,7 +50,7 @@ fn serve(file: &[u8], workers: u8, choices: &[u8]) {
     let begun = session::begin(file, workers, &mut mem, Sink::written(), &mut out);
     let started = begun.session;
     if begun.accepted {
-        let fed = session::feed(started, choices, &mut mem, &mut out);
+        let fed = feeding::feed(started, choices, &mut mem, &mut out);
         let done = feed_rest(fed, &mut mem, &mut out);
         let last = session::close(done, &mut out);
         last.flush(&out);

@@ -1,7 +1,7 @@
 -- Whether an opening was accepted.
 use mathlib.Core.Bool.{Bool, true, false}
-use Rattle.opening.specs.declared.beginning.Opening.{Opening}
-use Rattle.opening.specs.declared.beginning.Opening.the-variants.{Accepted, Refused}
+use Rattle.opening.specs.declared.Opening.{Opening}
+use Rattle.opening.specs.declared.Opening.the-variants.{Accepted, Refused}
 
 abbrev pub isAccepted : Opening → Bool
 isAccepted Accepted = true

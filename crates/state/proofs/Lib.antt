@@ -1,2 +1,2 @@
--- The proofs of the state: its ranges, and what they tell.
+-- The proofs of the state: what its ranges tell.
 pub mod in_range

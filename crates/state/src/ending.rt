@@ -1,7 +1,7 @@
 // Whether a run has ended.
 use crate::limits::COUNTERS_OF_LINE;
 use crate::limits::SLOTS;
-use rules::Slots;
+use vocabulary::Slots;
 ghost use mathlib.Core.Path.{_≡_};
 ghost use Rattle.rules.specs.Lists.{every};
 ghost use Rattle.state.specs.Ending.{isStill, overOf};

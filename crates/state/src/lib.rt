@@ -1,26 +1,21 @@
-// The state of a run: its numbers and their ranges, and its end.
-mod counters;
+// The state of a run: its numbers, and its end.
 mod ending;
-mod flags;
-mod joint;
 mod limits;
-mod ranges;
-mod rows;
-mod slots;
 
 pub use ending::is_over;
 pub use limits::COUNTERS;
 pub use limits::COUNTERS_OF_LINE;
 pub use limits::FLAGS;
+pub use limits::MOST_LINES;
+pub use limits::MOST_PIPES;
+pub use limits::MOST_TOKENS;
 pub use limits::MOST_WORKERS;
 pub use limits::SLOTS;
-pub use ranges::Survey;
-pub use ranges::look_over;
-use rules::Pipe;
-use rules::Place;
-use rules::Slots;
-use rules::Token;
 use tables::Tables;
+use vocabulary::Pipe;
+use vocabulary::Place;
+use vocabulary::Slots;
+use vocabulary::Token;
 ghost use mathlib.Core.Path.{_≡_};
 ghost use mathlib.Core.Bool.{true};
 ghost use mathlib.Core.List.{List};

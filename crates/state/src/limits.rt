@@ -1,9 +1,9 @@
 // How far a run's numbers go.
-pub(crate) const MOST_PIPES: u16 = 16;
+pub const MOST_PIPES: u16 = 16;
 
-pub(crate) const MOST_LINES: u16 = 32;
+pub const MOST_LINES: u16 = 32;
 
-pub(crate) const MOST_TOKENS: u16 = 4096;
+pub const MOST_TOKENS: u16 = 4096;
 
 pub const MOST_WORKERS: u16 = 32;
 

@@ -3,6 +3,8 @@
 pub mod TakingLaws
 -- a token's finish, and walks over the deferred table;
 pub mod ReleasingLaws
+-- past the tokens that are seen at once to wait;
+pub mod WaitingLaws
 -- the loops that write at a finish;
 pub mod Passes
 -- these loops one after the other;

@@ -1,14 +1,14 @@
 -- What the memory says of each token: its record, its standing, and what follows from them.
 use mathlib.Core.Bool.{Bool, true, false, not}
-use mathlib.Core.List.{List}
-use Prim.Native.Nat.{ℕ, _+_, _-_}
+use mathlib.Core.List.{List, [], _∷_}
+use Prim.Native.Nat.{ℕ, suc, _+_, _-_}
 use lib.Dec.{leb, ltb, eqb}
 use lib.ListN.{getD, take, drop}
 use Rattle.rules.specs.Lists.{if, must, mustNot, any}
 use Rattle.tables.specs.declared.Numbers.{Numbers}
 use Rattle.tables.specs.declared.Question.{Question}
 use Rattle.tables.specs.declared.Test.{Test}
-use Rattle.tables.specs.Layout.{positionsAt, standingAt, mostNumbers, deferredMark, finishedMark}
+use Rattle.tables.specs.Layout.{positionsAt, standingAt, mostNumbers, lastPlace, deferredMark, finishedMark}
 
 -- a number's standing; 0 past the facts' end, for a number that no token can have
 unfoldable pub standingOf : List ℕ → ℕ → ℕ
@@ -73,3 +73,21 @@ wakesOf f tokens d t =
     Test.Yes) in
     mustNot (leb tokens t) Test.Unsound
     (ofNumbers test f (numbersOf f t))
+
+-- it is seen at once that a token, below N, does not wake at this token's finish: its record lies well among the records,
+-- and the last of its numbers still holds it
+unfoldable pub waitsAtOnce : List ℕ → ℕ → ℕ → ℕ → Bool
+waitsAtOnce f tokens d t =
+    let place : ℕ = getD f (positionsAt + t) 0 in
+    let count : ℕ = getD f place 0 in
+    mustNot (leb tokens t) false
+    (mustNot (eqb place 0) false
+    (must (leb place lastPlace) false
+    (must (leb 1 count) false
+    (must (leb count mostNumbers) false
+    (leftOf f d (getD f (place + count) 0))))))
+
+-- how many tokens a list begins with that pass a test
+unfoldable pub leading : (ℕ → Bool) → List ℕ → ℕ
+leading test [] = 0
+leading test (t ∷ ts) = if (test t) (suc (leading test ts)) 0

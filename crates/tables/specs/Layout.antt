@@ -28,6 +28,10 @@ mostTokens = 4096
 abbrev pub mostNumbers : ℕ
 mostNumbers = 16
 
+-- the last place at which a record of so many numbers still ends among the records
+abbrev pub lastPlace : ℕ
+lastPlace = 16367
+
 -- the standings: none of these, in the deferred table, in the ready queue now, has finished pipe 0
 abbrev pub noMark : ℕ
 noMark = 0

@@ -5,7 +5,7 @@ use Prim.Native.Nat.{ℕ, _+_, _-_}
 use lib.Dec.{leb}
 use lib.ListN.{length, set, replicate}
 use lib.Seq.{sets, slice}
-use Rattle.rules.specs.Lists.{must, mustNot, keep, any}
+use Rattle.rules.specs.Lists.{if, must, mustNot, keep, any}
 use Rattle.rules.specs.Sources.{Released as Outcome, Broken, Passed}
 use Rattle.tables.specs.declared.Tables.{Tables}
 use Rattle.tables.specs.declared.Released.{Released}
@@ -28,6 +28,13 @@ wokenOf wakes l = keep (λ t. isYes (wakes t)) l
 unfoldable pub stayingOf : (ℕ → Test) → List ℕ → List ℕ
 stayingOf wakes l = keep (λ t. not (isYes (wakes t))) l
 
+-- the first or the second of these, and whether a token with this answer is one of them
+abbrev pub siftedOf : Bool → (ℕ → Test) → List ℕ → List ℕ
+siftedOf waking wakes l = if waking (wokenOf wakes l) (stayingOf wakes l)
+
+abbrev pub picked : Bool → Test → Bool
+picked waking x = if waking (isYes x) (not (isYes x))
+
 -- n more than the tokens of a list that wake, unless one of its records is bad
 unfoldable pub tallyOf : (ℕ → Test) → ℕ → List ℕ → Count
 tallyOf wakes n l =
@@ -40,6 +47,9 @@ wokenFrom m tokens d cell last = wokenOf (wakesOf (factsOf m) tokens d) (slice c
 
 abbrev pub stayingFrom : List ℕ → ℕ → ℕ → ℕ → ℕ → List ℕ
 stayingFrom m tokens d cell last = stayingOf (wakesOf (factsOf m) tokens d) (slice cell last m)
+
+abbrev pub siftedFrom : Bool → List ℕ → ℕ → ℕ → ℕ → ℕ → List ℕ
+siftedFrom waking m tokens d cell last = siftedOf waking (wakesOf (factsOf m) tokens d) (slice cell last m)
 
 -- the same for the whole deferred table, and whether a record there is bad
 abbrev pub wokenIn : Tables → ℕ → List ℕ → List ℕ

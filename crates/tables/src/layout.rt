@@ -11,29 +11,29 @@
 // Where the parts begin, after the records. Opening writes the positions too.
 pub const POSITIONS: usize = 16384;
 
-pub(crate) const STANDINGS: usize = 20480;
+pub const STANDINGS: usize = 20480;
 
-pub(crate) const DEFERRED: usize = 24576;
+pub const DEFERRED: usize = 24576;
 
-pub(crate) const READY: usize = 28672;
+pub const READY: usize = 28672;
 
 // How many numbers are lent.
 pub const LENT: usize = 32768;
 
 // The most tokens, and so the room of each part that is by token.
-pub(crate) const TOKENS: u16 = 4096;
+pub const TOKENS: u16 = 4096;
 
 // The most numbers in a record.
-pub(crate) const RECORD_NUMBERS: usize = 16;
+pub const RECORD_NUMBERS: usize = 16;
 
 // The last place at which a record of so many numbers still ends among the records: its count stands there, and its numbers after it.
-pub(crate) const LAST_PLACE: usize = POSITIONS - 17;
+pub const LAST_PLACE: usize = POSITIONS - 17;
 
 // The standings.
-pub(crate) const NO_MARK: u16 = 0;
+pub const NO_MARK: u16 = 0;
 
-pub(crate) const DEFERRED_MARK: u16 = 1;
+pub const DEFERRED_MARK: u16 = 1;
 
-pub(crate) const READY_MARK: u16 = 2;
+pub const READY_MARK: u16 = 2;
 
-pub(crate) const FINISHED_MARK: u16 = 3;
+pub const FINISHED_MARK: u16 = 3;

@@ -1,17 +1,41 @@
 // Runs the stored plans and runs. What it must print is made by the second implementation (tests/second/vectors.py has the format).
+mod lines;
 mod plans;
 mod runs;
 mod stored;
 
 use printing::Sink;
-use stored::Turn;
 
-// The next stored run, or plan.
-fn next(fd: i32, of_runs: bool, sink: Sink, out: &mut [u8]) -> Turn {
+// What one stored plan or run leads to: whether there was one, and the output.
+struct Turn {
+    more: bool,
+    sink: Sink,
+}
+
+// What is said of a plan's file: how it is read, or the run that is stored after it.
+fn put(fd: i32, of_runs: bool, file: &[u8], sink: Sink, out: &mut [u8]) -> Sink {
     if of_runs {
-        return runs::next(fd, sink, out);
+        return runs::put_run(fd, file, sink, out);
     }
-    plans::next(fd, sink, out)
+    plans::put_reading(sink, out, file)
+}
+
+// The next stored plan or run.
+fn next(fd: i32, of_runs: bool, sink: Sink, out: &mut [u8]) -> Turn {
+    let mut file = io::large_buffer();
+    let size = stored::two_bytes(fd);
+    if !size.there {
+        return Turn {
+            more: false,
+            sink: sink,
+        };
+    }
+    let got = stored::bytes(fd, size.value, &mut file);
+    let said = put(fd, of_runs, &file[..got], sink, out);
+    Turn {
+        more: true,
+        sink: said,
+    }
 }
 
 // All of a file. (The count of turns is there for the proof that the loop ends.)

@@ -1,7 +1,9 @@
 // The stored runs: a plan and the program's input, printed whole after `=`; or a plan and choices made from a seed, of which
 // `# lines sum` is printed, the digest of the output.
+ghost use mathlib.Core.Path.{_≡_};
+ghost use Prim.Native.Nat.{_+_, _-_};
+use crate::lines;
 use crate::stored;
-use crate::stored::Turn;
 use printing::Sink;
 use session::Session;
 
@@ -27,64 +29,68 @@ fn choice_of(seed: u64, modulus: u64) -> u8 {
     (c % 256) as u8
 }
 
-// Makes the choices, and each of them.
-fn feed_made(session: Session, made: Made, mem: &mut [u16], out: &mut [u8]) -> Session {
-    let mut now = session;
+// Feeds the stored choices, and then those that are made.
+fn feed(session: Session, choices: &[u8], made: Made, mem: &mut [u16], out: &mut [u8]) -> Session {
+    let mut now = feeding::feed(session, choices, mem, out);
     let mut seed = made.seed;
     let modulus = made.modulus;
     let mut left = made.count;
     while left > 0 {
         seed = next_seed(seed);
-        now = session::choose(now, choice_of(seed, modulus), mem, out);
+        now = feeding::choose(now, choice_of(seed, modulus), mem, out);
         left -= 1;
     }
     now
 }
 
-// The digest, printed.
-fn put_digest(sink: Sink, out: &mut [u8], lines: u64, sum: u64) -> Sink {
-    let s = printing::put_number(sink.put(out, b"#"), out, lines);
-    let s = printing::put_number(s, out, sum);
-    s.put(out, b"\n")
-}
-
-// A run whose choices are stored.
-fn serve(file: &[u8], workers: u8, choices: &[u8], sink: Sink, out: &mut [u8]) -> Sink {
+// A run of the program.
+fn serve(file: &[u8], workers: u8, choices: &[u8], made: Made, sink: Sink, out: &mut [u8]) -> Sink {
     let mut mem = [0u16; 32768];
-    let begun = session::begin(file, workers, &mut mem, sink.put(out, b"=\n"), out);
+    let begun = session::begin(file, workers, &mut mem, sink, out);
     let started = begun.session;
     if begun.accepted {
-        let fed = session::feed(started, choices, &mut mem, out);
+        let fed = feed(started, choices, made, &mut mem, out);
         return session::close(fed, out);
     }
     started.sink
 }
 
-// A run whose choices are made.
+// The digest of a run whose choices are made.
 fn digest(file: &[u8], workers: u8, made: Made) -> Sink {
-    let mut mem = [0u16; 32768];
     let mut out = io::large_buffer();
-    let begun = session::begin(file, workers, &mut mem, Sink::digested(), &mut out);
-    let started = begun.session;
-    if begun.accepted {
-        let fed = feed_made(started, made, &mut mem, &mut out);
-        let done = session::close(fed, &mut out);
-        return done.flush(&out);
-    }
-    let sink = started.sink;
-    sink.flush(&out)
+    let done = serve(file, workers, b"", made, Sink::digested(), &mut out);
+    done.flush(&out)
 }
 
-// The input of a stored run: W, then the choices.
+// Where the input ends in its buffer; an absent W reads as the 0 that the buffer begins with.
+fn end_of(got: usize) -> usize
+    ensures { λ r. ⌜ r ≡ 1 + (got - 1) ⌝ }
+{
+    if got == 0 {
+        return 1;
+    }
+    got
+}
+
+// A run whose input is stored: W, then the choices.
 fn stored_run(fd: i32, file: &[u8], sink: Sink, out: &mut [u8]) -> Sink {
     let mut input = io::large_buffer();
     let size = stored::four_bytes(fd);
-    let got = stored::bytes(fd, size.value, &mut input);
-    if got == 0 {
-        return serve(file, 0, b"", sink, out);
-    }
+    let end = end_of(stored::bytes(fd, size.value, &mut input));
+    let none = Made {
+        count: 0,
+        seed: 0,
+        modulus: 0,
+    };
     let workers = input[0];
-    serve(file, workers, &input[1..got], sink, out)
+    serve(
+        file,
+        workers,
+        &input[1..end],
+        none,
+        sink.put(out, b"=\n"),
+        out,
+    )
 }
 
 fn made_run(fd: i32, file: &[u8], sink: Sink, out: &mut [u8]) -> Sink {
@@ -98,31 +104,15 @@ fn made_run(fd: i32, file: &[u8], sink: Sink, out: &mut [u8]) -> Sink {
         modulus: modulus.value,
     };
     let done = digest(file, (workers.value % 256) as u8, made);
-    put_digest(sink, out, done.lines, done.sum)
+    let numbers = [done.lines, done.sum];
+    lines::put_line(sink, out, b"#", &numbers)
 }
 
-// The next stored run.
-pub fn next(fd: i32, sink: Sink, out: &mut [u8]) -> Turn {
-    let mut file = io::large_buffer();
-    let size = stored::two_bytes(fd);
-    if !size.there {
-        return Turn {
-            more: false,
-            sink: sink,
-        };
-    }
-    let got = stored::bytes(fd, size.value, &mut file);
+// The run that is stored after its plan.
+pub fn put_run(fd: i32, file: &[u8], sink: Sink, out: &mut [u8]) -> Sink {
     let kind = stored::byte(fd);
     if kind.value == 0 {
-        let said = stored_run(fd, &file[..got], sink, out);
-        return Turn {
-            more: true,
-            sink: said,
-        };
+        return stored_run(fd, file, sink, out);
     }
-    let said = made_run(fd, &file[..got], sink, out);
-    Turn {
-        more: true,
-        sink: said,
-    }
+    made_run(fd, file, sink, out)
 }

@@ -1,12 +1,5 @@
 // Reading stored numbers and bytes from a file.
 ghost use Rattle.io.specs.Counts.{Counts};
-use printing::Sink;
-
-// What one stored plan or run leads to: whether there was one, and the output.
-pub struct Turn {
-    pub more: bool,
-    pub sink: Sink,
-}
 
 // A number that was read, unless the file ended before it.
 pub struct Stored {

@@ -4,19 +4,19 @@ use mathlib.Core.List.{List}
 use Prim.Native.Nat.{ℕ, _+_, _*_, _<_, _≤_}
 use lib.ListN.{length, getD, drop}
 use Rattle.rules.specs.Answers.{answerOf}
-use Rattle.rules.specs.Refusals.{numberOf}
+use Rattle.vocabulary.specs.Refusals.{numberOf}
 use Rattle.rules.specs.Choices.{choose, answers, follow}
-use Rattle.rules.specs.declared.Line.{Line}
-use Rattle.rules.specs.declared.answer.Step.{Step}
-use Rattle.rules.specs.declared.answer.Answer.{Answer}
-use Rattle.rules.specs.declared.refusal.Refusal.{Refusal}
+use Rattle.vocabulary.specs.declared.Line.{Line}
+use Rattle.vocabulary.specs.declared.answer.Step.{Step}
+use Rattle.vocabulary.specs.declared.answer.Answer.{Answer}
+use Rattle.vocabulary.specs.declared.refusal.Refusal.{Refusal}
 use Rattle.tables.specs.Calls.{memorySource}
 use Rattle.state.specs.Machines.{machineOf}
 use Rattle.engine.specs.Machines.{chosenOf}
 use Rattle.state.specs.declared.State.{State}
 use Rattle.engine.specs.declared.Chosen.{Chosen}
-use Rattle.opening.specs.declared.beginning.Opening.{Opening}
-use Rattle.opening.specs.declared.beginning.Opened.{Opened}
+use Rattle.opening.specs.declared.Opening.{Opening}
+use Rattle.opening.specs.declared.Opened.{Opened}
 use Rattle.opening.specs.Opened.{openOf}
 use Rattle.engine.proofs.Feeding.{follow-turn, follow-end, answers-turn, answers-end}
 use Rattle.whole_run.specs.Checksums.{stepValue, valueOf, mixed, checksum}

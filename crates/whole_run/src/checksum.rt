@@ -1,6 +1,6 @@
 // A checksum of a run's answers, that any language has in a line.
-use rules::Answer;
-use rules::Step;
+use vocabulary::Answer;
+use vocabulary::Step;
 ghost use mathlib.Core.Path.{_≡_};
 ghost use Prim.Native.Nat.{_+_, _*_, _<_};
 ghost use Rattle.rules.specs.Answers.{answerOf};

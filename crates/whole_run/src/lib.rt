@@ -8,11 +8,11 @@ ghost use Rattle.state.specs.Machines.{machineOf};
 ghost use Rattle.whole_run.specs.Checksums.{checksum};
 ghost use Rattle.whole_run.specs.Runs.{runOf};
 use engine::Chosen;
-use engine::Opening;
-use engine::State;
-use rules::Answer;
-use rules::Line;
-use rules::Refusal;
+use opening::Opening;
+use state::State;
+use vocabulary::Answer;
+use vocabulary::Line;
+use vocabulary::Refusal;
 
 fn wide(x: u8) -> u16
     ensures { λ r. ⌜ r ≡ x ⌝ }
@@ -49,7 +49,7 @@ pub extern "C" fn pipeline_run(file: &[u8], workers: u16, choices: &[u8], mem: &
     ensures answer { λ r. ⌜ r ≡ runOf (now (file .entry)) workers (now (choices .entry)) (now (mem .entry)) .0 ⌝ }
     ensures memory { λ _. ⌜ now (mem .exit) ≡ runOf (now (file .entry)) workers (now (choices .entry)) (now (mem .entry)) .1 ⌝ }
 {
-    let opened = engine::open(file, workers, mem);
+    let opened = opening::open(file, workers, mem);
     let answer = opened.answer;
     let state = opened.state;
     match answer {

@@ -7,9 +7,9 @@ use native.Mathlib.Omega.{arith}
 use borrow.Author.Tests.{lt-ltb, le-ltb, eq-eqb, ne-eqb}
 use lib.ListN.{getD}
 use Rattle.rules.specs.RunState.{Machine, slotAt, counterAt}
-use Rattle.rules.specs.declared.Slot.{Slot}
-use Rattle.rules.specs.declared.Slots.{Slots}
-use Rattle.rules.specs.declared.refusal.Refusal.{Refusal}
+use Rattle.vocabulary.specs.declared.Slot.{Slot}
+use Rattle.vocabulary.specs.declared.Slots.{Slots}
+use Rattle.vocabulary.specs.declared.refusal.Refusal.{Refusal}
 use Rattle.rules.specs.Choices.{runningBelow, ended, start, finish, move, choose}
 use Rattle.rules.specs.Ranges.{sound}
 use Rattle.rules.specs.Choices as rules
@@ -17,16 +17,16 @@ use Rattle.tables.specs.State as tables
 use Rattle.tables.specs.Calls.{memorySource}
 use Rattle.state.specs.declared.State.{State}
 use Rattle.state.specs.declared.Figures.{Figures}
-use Rattle.state.specs.declared.ranges.Survey.{Survey}
+use Rattle.ranges.specs.declared.Survey.{Survey}
 use Rattle.engine.specs.declared.turn.Turn.{Turn}
 use Rattle.state.specs.Machines.{machineOf}
 use Rattle.engine.specs.Machines.{chosenOf}
 use Rattle.state.specs.Ending.{endedOf}
 use Rattle.state.specs.Machines.{whole, Ready}
-use Rattle.state.specs.Surveys.{surveyOf}
+use Rattle.ranges.specs.Surveys.{surveyOf}
 use Rattle.engine.specs.Turns.{turned}
 use Rattle.engine.proofs.moves.Parts.{refused}
-use Rattle.state.proofs.in_range.SurveyLaws.{tells-sound, tells-slot}
+use Rattle.ranges.proofs.in_range.SurveyLaws.{tells-sound, tells-slot}
 use Rattle.state.proofs.in_range.SoundLaws as laws
 
 module _ (f : Figures) (counters : List ℕ) (slots : Slots) (l : ℕ) (mem : List ℕ) where

@@ -11,11 +11,11 @@ use lib.Dec.{eqb}
 use lib.ListN.{getD, set, length, List·getD-eq-default}
 use lib.Seq.{set-getD, getD-set-same, getD-set-other}
 use Rattle.rules.specs.Lists.{if}
-use Rattle.rules.specs.declared.Line.{Line}
-use Rattle.rules.specs.declared.Slot.{Slot}
-use Rattle.rules.specs.declared.Slots.{Slots}
-use Rattle.rules.specs.declared.answer.Answer.{Answer}
-use Rattle.rules.specs.declared.refusal.Refusal.{Refusal}
+use Rattle.vocabulary.specs.declared.Line.{Line}
+use Rattle.vocabulary.specs.declared.Slot.{Slot}
+use Rattle.vocabulary.specs.declared.Slots.{Slots}
+use Rattle.vocabulary.specs.declared.answer.Answer.{Answer}
+use Rattle.vocabulary.specs.declared.refusal.Refusal.{Refusal}
 use Rattle.rules.specs.RunState.{slotAt, counterAt}
 use Rattle.rules.specs.Sources.{Released as Outcome, Broken, Passed}
 use Rattle.rules.specs.Choices.{next, moved, fall, refuse, settle, finishWith, finishFirst, finish}

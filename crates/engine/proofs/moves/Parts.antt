@@ -3,9 +3,9 @@ use mathlib.Core.Path.{_≡_}
 use mathlib.Core.Bool.{Bool}
 use mathlib.Core.List.{List}
 use Prim.Native.Nat.{ℕ, _<_}
-use Rattle.rules.specs.declared.Slots.{Slots}
-use Rattle.rules.specs.declared.refusal.Refusal.{Refusal}
-use Rattle.rules.specs.Refusals.{numberOf}
+use Rattle.vocabulary.specs.declared.Slots.{Slots}
+use Rattle.vocabulary.specs.declared.refusal.Refusal.{Refusal}
+use Rattle.vocabulary.specs.Refusals.{numberOf}
 use Rattle.rules.specs.Choices.{withPlace, refuse}
 use Rattle.rules.specs.Choices as rules
 use Rattle.tables.specs.declared.Tables.{Tables}

@@ -9,11 +9,11 @@ use borrow.Author.Tests.{lt-ltb, le-ltb, ltb-true, eq-eqb, ne-eqb}
 use lib.Dec.{ltb}
 use lib.ListN.{set}
 use Rattle.rules.specs.Lists.{if}
-use Rattle.rules.specs.declared.Line.{Line}
-use Rattle.rules.specs.declared.Slot.{Slot}
-use Rattle.rules.specs.declared.Slots.{Slots}
-use Rattle.rules.specs.declared.answer.Answer.{Answer}
-use Rattle.rules.specs.declared.refusal.Refusal.{Refusal}
+use Rattle.vocabulary.specs.declared.Line.{Line}
+use Rattle.vocabulary.specs.declared.Slot.{Slot}
+use Rattle.vocabulary.specs.declared.Slots.{Slots}
+use Rattle.vocabulary.specs.declared.answer.Answer.{Answer}
+use Rattle.vocabulary.specs.declared.refusal.Refusal.{Refusal}
 use Rattle.rules.specs.RunState.{slotAt, putSlot, counterAt}
 use Rattle.rules.specs.Sources.{Taken as Outcome, Spoiled, Nothing, Took}
 use Rattle.rules.specs.Choices.{refuse, startFirst, startLater, start}

@@ -1,7 +1,7 @@
 -- `engine::turn_of` meets its contract.
 use borrow.Author.Needs.{needs}
 use borrow.Author.Tests.{not-true, not-false}
-use Rattle.state.proofs.in_range.SurveyLaws.{tells-running}
+use Rattle.ranges.proofs.in_range.SurveyLaws.{tells-running}
 use Rattle.engine.proofs.moves.ChooseLaws as laws
 use Rattle.engine.proofs.turn_of.Statement.{statement}
 use Rattle.engine.proofs.turn_of.Tie as tie

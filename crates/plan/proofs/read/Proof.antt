@@ -5,10 +5,10 @@ use Prim.Native.Nat.{ℕ}
 use native.Mathlib.Omega.{arith}
 use borrow.Author.Needs.{needs}
 use lib.ListN.{length}
-use Rattle.plan.specs.Bytes.{Bytes}
+use Rattle.fields.specs.Bytes.{Bytes}
 use Rattle.plan.specs.Trailer.{trailerOf, headerCheck}
 use Rattle.plan.specs.Reading.{partsCheck, checkOf, readOf, readingOf}
-use Rattle.rules.specs.declared.refusal.Refusal.{Refusal}
+use Rattle.vocabulary.specs.declared.refusal.Refusal.{Refusal}
 use Rattle.plan.specs.declared.verdict.Check.the-variants.{Passed, Failed}
 use Rattle.plan.specs.declared.Reading.the-variants.{Accepted, Refused}
 use Rattle.plan.proofs.Facts.{header-passed}

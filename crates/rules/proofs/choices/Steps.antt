@@ -6,7 +6,7 @@ use Prim.Native.Nat.{ℕ, _+_, _*_, _≤_, _<_}
 use native.Mathlib.Omega.{arith}
 use lib.ListN.{getD}
 use borrow.Author.Tests.{lt-ltb, le-ltb}
-use Rattle.rules.specs.declared.Slot.{Slot}
+use Rattle.vocabulary.specs.declared.Slot.{Slot}
 use Rattle.rules.specs.RunState.{Pipeline, Machine, slotAt, slotOf, counterOf}
 use Rattle.rules.specs.Choices.{Chosen, refuse}
 use Rattle.rules.specs.Sources.{Source}

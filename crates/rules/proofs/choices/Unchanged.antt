@@ -6,7 +6,7 @@ use Prim.Native.Nat.{ℕ, _+_, _*_}
 use native.Mathlib.Omega.{arith}
 use lib.Dec.{ltb, eqb}
 use lib.ListN.{getD}
-use Rattle.rules.specs.declared.Slot.{Slot}
+use Rattle.vocabulary.specs.declared.Slot.{Slot}
 use Rattle.rules.specs.Lists.{if}
 use Rattle.rules.specs.RunState.{Machine}
 use Rattle.rules.specs.Sources.{Source, Taken, Spoiled, Nothing, Took, Released, Broken, Passed}

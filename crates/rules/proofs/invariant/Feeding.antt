@@ -6,7 +6,7 @@ use Prim.Native.Nat.{ℕ, suc, _≤_, _<_}
 use native.Mathlib.Omega.{arith}
 use lib.ListN.{length, getD, drop, length-drop}
 use lib.Seq.{drop-cons}
-use Rattle.rules.specs.declared.Slots.{Slots}
+use Rattle.vocabulary.specs.declared.Slots.{Slots}
 use Rattle.rules.specs.RunState.{Pipeline}
 use Rattle.rules.specs.Sources.{Source, Writes, close, write, Nothing, Took, Passed}
 use Rattle.rules.specs.WholeRuns.{PipelineInRange}

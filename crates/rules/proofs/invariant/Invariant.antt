@@ -6,8 +6,8 @@ use Prim.Native.Nat.{ℕ, suc, _+_, _*_, _≤_, _<_}
 use native.Mathlib.Omega.{arith}
 use lib.Dec.{eqb}
 use lib.ListN.{length, getD, drop}
-use Rattle.rules.specs.declared.Slot.{Slot}
-use Rattle.rules.specs.declared.Slots.{Slots}
+use Rattle.vocabulary.specs.declared.Slot.{Slot}
+use Rattle.vocabulary.specs.declared.Slots.{Slots}
 use Rattle.rules.specs.Lists.{if}
 use Rattle.rules.specs.RunState.{Pipeline, Machine, idle, runs, slotAt, full}
 use Rattle.rules.specs.Sources.{Source, Writes, close, write, Passed}

@@ -7,8 +7,8 @@ use native.Mathlib.Omega.{arith}
 use lib.Dec.{eqb}
 use lib.ListN.{getD}
 use borrow.Author.Tests.{eq-eqb, ne-eqb}
-use Rattle.rules.specs.declared.Slot.{Slot}
-use Rattle.rules.specs.declared.Slots.{Slots}
+use Rattle.vocabulary.specs.declared.Slot.{Slot}
+use Rattle.vocabulary.specs.declared.Slots.{Slots}
 use Rattle.rules.specs.RunState.{Pipeline, idle, runs, waits, putSlot}
 use Rattle.rules.specs.Choices.{moved}
 use Rattle.rules.specs.WholeRuns.{PipelineInRange}

@@ -8,7 +8,7 @@ use lib.Dec.{ltb}
 use lib.ListN.{length, getD}
 use borrow.Author.Tests.{le-leb, lt-ltb}
 use Rattle.rules.specs.Lists.{if, every}
-use Rattle.rules.specs.declared.Slot.{Slot}
+use Rattle.vocabulary.specs.declared.Slot.{Slot}
 use Rattle.rules.specs.RunState.{Pipeline, idle, slotAt}
 use Rattle.rules.specs.Sources.{Source}
 use Rattle.rules.specs.Ranges.{sound, numbersSound, isIdle, isLoaded, slotSound, mostAt, counterSound, serialSound}

@@ -6,6 +6,7 @@ use lib.Dec.{ltb, eqb}
 use borrow.Author.Tests.{ltb-true, ltb-false, eqb-true, eqb-false, le-leb, lt-leb, lt-ltb, le-ltb, eq-eqb, ne-eqb}
 use Rattle.rules.specs.Lists.{if, samePair}
 use native.Mathlib.Omega.{arith}
+pub use Rattle.vocabulary.proofs.Branches.{if-holds, if-fails}
 
 -- by the two outcomes of a test
 pub by-test : {C : Type 0} (b : Bool) → (b ≡ true → C) → (b ≡ false → C) → C
@@ -30,13 +31,6 @@ bool-ext true true f g = refl
 bool-ext true false f g = sym (f refl)
 bool-ext false true f g = g refl
 bool-ext false false f g = refl
-
--- a link of a chain of tests, by a test that holds, or does not
-pub if-holds : {A : Type 0} (b : Bool) (a d x : A) → b ≡ true → x ≡ a → x ≡ if b a d
-if-holds b a d x p q = rw p q
-
-pub if-fails : {A : Type 0} (b : Bool) (a d x : A) → b ≡ false → x ≡ d → x ≡ if b a d
-if-fails b a d x p q = rw p q
 
 pub not-holds : (b : Bool) → b ≡ false → not b ≡ true
 not-holds b e = rw e

@@ -5,7 +5,7 @@ use mathlib.Core.List.{List}
 use Prim.Native.Nat.{ℕ, zero, suc, _+_, _*_, _<_}
 use native.Mathlib.Omega.{arith}
 use lib.ListN.{getD}
-use Rattle.rules.specs.declared.Slots.{Slots}
+use Rattle.vocabulary.specs.declared.Slots.{Slots}
 use Rattle.rules.specs.RunState.{Pipeline, slotAt}
 use Rattle.rules.specs.Choices.{Chosen, ended, runningBelow, choose}
 use Rattle.rules.specs.Sources.{Source}

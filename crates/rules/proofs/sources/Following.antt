@@ -14,7 +14,7 @@ use Rattle.rules.specs.Ranges.{numbersSound, sound}
 use Rattle.rules.specs.Choices.{startFirst, startLater, start, settle, finishWith, finishFirst, finish, move}
 use Rattle.rules.specs.Choices.{choose, answers, follow}
 use Rattle.rules.specs.RelatedSources.{mapTaken, mapReleased, mapMachine, mapChosen, Follows}
-use Rattle.rules.specs.declared.Slot.{Slot}
+use Rattle.vocabulary.specs.declared.Slot.{Slot}
 use Rattle.rules.proofs.lists.Tests.{by-test}
 
 module _ {X Y : Type 0} (f : X → Y) (m : Machine X) where

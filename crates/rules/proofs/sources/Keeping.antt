@@ -9,7 +9,7 @@ use Rattle.rules.specs.Choices.{next, fall, runningBelow, ended}
 use Rattle.rules.specs.Ranges.{sound}
 use Rattle.rules.specs.Choices.{startFirst, startLater, start, settle, finishWith, finishFirst, finish, move, choose, follow}
 use Rattle.rules.specs.RelatedSources.{OnTaken, OnReleased, Keeps}
-use Rattle.rules.specs.declared.Slot.{Slot}
+use Rattle.vocabulary.specs.declared.Slot.{Slot}
 use Rattle.rules.proofs.lists.Tests.{by-test}
 
 module _ {X : Type 0} {P : X → Type 0} {S : Source X} (keeps : Keeps P S) where

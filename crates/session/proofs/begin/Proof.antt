@@ -1,6 +1,6 @@
 -- `begin` returns what the engine's opening returns, leaves the memory that it leaves, and prints a refusal.
 use mathlib.Core.Path.{ap, sym, _∙_}
-use Rattle.opening.specs.declared.beginning.Opened.{Opened}
+use Rattle.opening.specs.declared.Opened.{Opened}
 use borrow.Author.Needs.{needs}
 use Rattle.session.proofs.PrintedLaws.{prints-refusal, prints-nothing}
 use Rattle.session.proofs.begin.Statement.{statement}

@@ -1,48 +1,47 @@
 -- What a state within its ranges is like.
-use mathlib.Core.Path.{_≡_, refl, sym, ap, _∙_}
+use mathlib.Core.Path.{_≡_, refl, ap, _∙_}
 use mathlib.Core.Bool.{Bool, true, false, not}
 use mathlib.Core.List.{List}
 use Prim.Native.Nat.{ℕ, zero, suc, _+_, _*_, _<_, _≤_}
 use native.Mathlib.Omega.{arith}
-use borrow.Author.Tests.{ltb-true, lt-ltb}
-use lib.Dec.{ltb, eqb}
+use borrow.Author.Tests.{ltb-true, lt-ltb, leb-true, eqb-true}
+use lib.Dec.{leb, ltb, eqb}
 use lib.ListN.{getD}
-use Rattle.rules.specs.Lists.{if, every}
-use Rattle.rules.specs.declared.Slot.{Slot}
-use Rattle.rules.specs.declared.Slots.{Slots}
+use Rattle.rules.specs.Lists.{if, every, within}
+use Rattle.vocabulary.specs.declared.Slot.{Slot}
+use Rattle.vocabulary.specs.declared.Slots.{Slots}
 use Rattle.rules.specs.RunState.{slotAt}
 use Rattle.rules.specs.Choices.{movable, ended}
 use Rattle.rules.specs.Ranges.{isIdle, isLoaded, slotSound, serialSound, numbersSound, sound}
 use Rattle.tables.specs.Calls.{memorySource}
 use Rattle.state.specs.declared.State.{State}
 use Rattle.state.specs.declared.Figures.{Figures}
-use Rattle.state.specs.RangeParts.{figuresSound}
 use Rattle.state.specs.Machines.{slotsOf, machineOf}
 use Rattle.state.specs.Ending.{isStill, overOf, endedOf}
 use Rattle.state.specs.Machines.{whole, Ready}
 use Rattle.rules.proofs.lists.Tests.{by-test}
-use Rattle.state.proofs.in_range.Rows.{first-holds, rest-hold, every-at}
-use Rattle.state.proofs.in_range.SlotLaws.{idle-pipe}
-use Rattle.state.proofs.in_range.RangeLaws as figures
-use Rattle.state.proofs.in_range.RangeLaws.{numbers-are}
-
--- a state but for its counters and slots
-abbrev figuresOf : State → Figures
-figuresOf s = record {
-  pipes = s .pipes;
-  lines = s .lines;
-  workers = s .workers;
-  serial = s .serial;
-  placed = s .placed;
-  stopped = s .stopped;
-  tables = s .tables;
-}
+use Rattle.state.proofs.in_range.Holding.{first-holds, rest-hold, every-at}
 
 -- a line's slot
 abbrev slotIn : State → ℕ → Slot
 slotIn s l = slotAt (slotsOf s) l
 
+-- a number within a range
+module _ (low high n : ℕ) (ok : within low high n ≡ true) where
+  within-least : low ≤ n
+  unfolding within
+  within-least = leb-true low n (first-holds (leb low n) _ ok)
+
+  within-most : n ≤ high
+  unfolding within
+  within-most = leb-true n high (first-holds (leb n high) _ (rest-hold (leb low n) _ ok))
+
 module _ (slot : Slot) where
+  -- an idle slot is at pipe 0
+  idle-pipe : isIdle slot ≡ true → slot .pipe .0 ≡ 0
+  unfolding isIdle
+  idle-pipe e = eqb-true (slot .pipe .0) 0 (first-holds (eqb (slot .pipe .0) 0) _ (rest-hold (not (slot .running)) _ e))
+
   -- a loaded slot is at a pipe below P
   loaded-pipe : (pipes tokens : ℕ) → isLoaded pipes tokens slot ≡ true → slot .pipe .0 < pipes
   unfolding isLoaded
@@ -60,17 +59,22 @@ module _ (s : State) (mem : List ℕ) (ok : sound memorySource (machineOf s mem)
       first-holds (every 32 (slotSound (s .pipes) (s .lines) (s .tables .tokens) (slotsOf s))) _
       (rest-hold (every 16 (serialSound (s .pipes) (s .serial))) _ (rest-hold (numbersSound (machineOf s mem)) _ ok))
 
-  figures-ok : figuresSound (figuresOf s) ≡ true
-  figures-ok = first-holds (figuresSound (figuresOf s)) _ (sym (numbers-are (figuresOf s) (s .counters) (slotsOf s) mem) ∙ numbers-ok)
+  pipes-ok : within 1 16 (s .pipes) ≡ true
+  unfolding numbersSound machineOf
+  pipes-ok = first-holds (within 1 16 (s .pipes)) _ numbers-ok
+
+  lines-ok : within 1 32 (s .lines) ≡ true
+  unfolding numbersSound machineOf
+  lines-ok = first-holds (within 1 32 (s .lines)) _ (rest-hold (within 1 16 (s .pipes)) _ numbers-ok)
 
   pipes-some : 1 ≤ s .pipes
-  pipes-some = figures.pipes-some (figuresOf s) figures-ok
+  pipes-some = within-least 1 16 (s .pipes) pipes-ok
 
   pipes-most : s .pipes ≤ 16
-  pipes-most = figures.pipes-most (figuresOf s) figures-ok
+  pipes-most = within-most 1 16 (s .pipes) pipes-ok
 
   pub lines-most : s .lines ≤ 32
-  lines-most = figures.lines-most (figuresOf s) figures-ok
+  lines-most = within-most 1 32 (s .lines) lines-ok
 
   -- each line is at a pipe of the plan
   pipe-less : (l : ℕ) → l < 32 → slotIn s l .pipe .0 < s .pipes

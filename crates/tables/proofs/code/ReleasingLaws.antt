@@ -1,6 +1,6 @@
 -- The definitions of specs/Releasing, case by case, as the code meets them.
 use mathlib.Core.Path.{_≡_, refl, sym, ap, _∙_}
-use mathlib.Core.Bool.{Bool, true, false}
+use mathlib.Core.Bool.{Bool, true, false, not}
 use mathlib.Core.List.{List, [], _∷_}
 use Prim.Native.Nat.{ℕ, suc, _+_, _<_, _≤_}
 use native.Mathlib.Omega.{arith}
@@ -17,7 +17,7 @@ use Rattle.tables.specs.declared.Test.{Test}
 use Rattle.tables.specs.declared.Count.{Count}
 use Rattle.tables.specs.Facts.{wakesOf}
 use Rattle.tables.specs.State.{State}
-use Rattle.tables.specs.Releasing.{isYes, wokenOf, stayingOf, tallyOf, wokenIn, unsoundIn, movedTables, movedMemory, releaseOf, releasedOf}
+use Rattle.tables.specs.Releasing.{wokenOf, stayingOf, siftedOf, picked, tallyOf, wokenIn, unsoundIn, movedTables, movedMemory, releaseOf, releasedOf}
 use Rattle.tables.specs.Releasing.{releasedMemory}
 
 -- a walk over the cells from one up to another: none is left from the end on, and before it the next one comes first
@@ -56,36 +56,37 @@ module _ {whole : Count} (wakes : ℕ → Test) (n : ℕ) (m : List ℕ) (cell l
     unfolding tallyOf any wokenOf keep
     tally-no e = rw (cells-next m cell last h l, ← r-is, e) at left
 
--- the next cell's token wakes, or stays
-module _ (wakes : ℕ → Test) (m : List ℕ) (cell last : ℕ) (h : cell < last) (l : last ≤ length m) {r : Bool} (r-is : r ≡ isYes (wakes (getD m cell 0))) where
-  pub woken-yes : r ≡ true → wokenOf wakes (slice cell last m) ≡ getD m cell 0 ∷ wokenOf wakes (slice (cell + 1) last m)
-  unfolding wokenOf keep
-  woken-yes e = rw (cells-next m cell last h l, ← r-is, e)
+-- the next cell's token is one of those that wake, or of those that stay, as asked
+module _ (wakes : ℕ → Test) (m : List ℕ) (cell last : ℕ) (h : cell < last) (l : last ≤ length m) {r : Bool} where
+  pub sifted-yes : (waking : Bool) → r ≡ picked waking (wakes (getD m cell 0)) → r ≡ true
+      → siftedOf waking wakes (slice cell last m) ≡ getD m cell 0 ∷ siftedOf waking wakes (slice (cell + 1) last m)
+  unfolding wokenOf stayingOf keep
+  sifted-yes true r-is e = rw (cells-next m cell last h l, ← r-is, e)
+  sifted-yes false r-is e = rw (cells-next m cell last h l, ← r-is, e)
 
-  pub woken-no : r ≡ false → wokenOf wakes (slice cell last m) ≡ wokenOf wakes (slice (cell + 1) last m)
-  unfolding wokenOf keep
-  woken-no e = rw (cells-next m cell last h l, ← r-is, e)
+  pub sifted-no : (waking : Bool) → r ≡ picked waking (wakes (getD m cell 0)) → r ≡ false
+      → siftedOf waking wakes (slice cell last m) ≡ siftedOf waking wakes (slice (cell + 1) last m)
+  unfolding wokenOf stayingOf keep
+  sifted-no true r-is e = rw (cells-next m cell last h l, ← r-is, e)
+  sifted-no false r-is e = rw (cells-next m cell last h l, ← r-is, e)
 
-  pub staying-yes : r ≡ true → stayingOf wakes (slice cell last m) ≡ stayingOf wakes (slice (cell + 1) last m)
-  unfolding stayingOf keep
-  staying-yes e = rw (cells-next m cell last h l, ← r-is, e)
+pub sifted-end : (waking : Bool) (wakes : ℕ → Test) (m : List ℕ) (cell last : ℕ) → cell ≤ last → last ≤ cell → siftedOf waking wakes (slice cell last m) ≡ []
+unfolding wokenOf stayingOf keep
+sifted-end true wakes m cell last l h = rw (cells-end m cell last l h)
+sifted-end false wakes m cell last l h = rw (cells-end m cell last l h)
 
-  pub staying-no : r ≡ false → stayingOf wakes (slice cell last m) ≡ getD m cell 0 ∷ stayingOf wakes (slice (cell + 1) last m)
-  unfolding stayingOf keep
-  staying-no e = rw (cells-next m cell last h l, ← r-is, e)
+-- by the answer: one that wakes is picked where those are asked for, another where not
+pub picked-yes : (waking : Bool) {x : Test} → x ≡ Test.Yes → waking ≡ picked waking x
+picked-yes true e = rw e
+picked-yes false e = rw e
 
-module _ (wakes : ℕ → Test) (m : List ℕ) (cell last : ℕ) (l : cell ≤ last) (h : last ≤ cell) where
-  pub woken-end : wokenOf wakes (slice cell last m) ≡ []
-  unfolding wokenOf keep
-  woken-end = rw (cells-end m cell last l h)
+pub picked-no : (waking : Bool) {x : Test} → x ≡ Test.No → not waking ≡ picked waking x
+picked-no true e = rw e
+picked-no false e = rw e
 
-  pub staying-end : stayingOf wakes (slice cell last m) ≡ []
-  unfolding stayingOf keep
-  staying-end = rw (cells-end m cell last l h)
-
--- the answer about a cell of the memory as it was, from that about the same cell now
-pub seen : {f f′ : List ℕ} (tokens d : ℕ) {t t′ : ℕ} {r : Bool} → f′ ≡ f → t′ ≡ t → r ≡ isYes (wakesOf f′ tokens d t′) → r ≡ isYes (wakesOf f tokens d t)
-seen tokens d f-is t-is e = rw (f-is, t-is) at e
+pub picked-bad : (waking : Bool) {x : Test} → x ≡ Test.Unsound → not waking ≡ picked waking x
+picked-bad true e = rw e
+picked-bad false e = rw e
 
 -- what a code's answer and memory are to be, for an outcome
 abbrev pub Gives : List ℕ → Outcome State → Released → List ℕ → Type 0

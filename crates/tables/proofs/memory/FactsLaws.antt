@@ -8,13 +8,14 @@ use native.Mathlib.Numerals.{add-one}
 use lib.Dec.{leb, eqb}
 use lib.ListN.{length, getD, take, drop, length-take, length-drop, List·getD-eq-default, drop-of-length-le}
 use lib.Seq.{drop-cons, getD-take, getD-drop}
-use borrow.Author.Tests.{lt-ltb, le-ltb, le-leb, lt-leb, ne-eqb, leb-true}
+use borrow.Author.Tests.{lt-ltb, le-ltb, le-leb, lt-leb, ne-eqb, leb-true, leb-false, eqb-false}
 use Rattle.rules.specs.Lists.{if, any}
 use Rattle.rules.proofs.lists.Tests.{by-test}
 use Rattle.tables.specs.declared.Numbers.{Numbers}
 use Rattle.tables.specs.declared.Question.{Question}
 use Rattle.tables.specs.declared.Test.{Test}
-use Rattle.tables.specs.Facts.{standingOf, numbersAt, numbersOf, holdsOf, dueOf, leftOf, anyOf, freeOf, wakesOf, ofNumbers}
+use Rattle.tables.specs.Facts.{standingOf, numbersAt, numbersOf, holdsOf, dueOf, leftOf, anyOf, freeOf, wakesOf, ofNumbers, waitsAtOnce}
+use Rattle.tables.proofs.memory.Ranges.{and-true, nor-true}
 
 module _ (f : List ℕ) where
   -- no token has a number from 4,096 on
@@ -151,8 +152,40 @@ pub wakes-beyond : (f : List ℕ) (tokens d t : ℕ) → tokens ≤ t → Test.U
 unfolding wakesOf
 wakes-beyond f tokens d t h = rw (le-leb tokens t h)
 
+-- whether a token is seen at once to wait: it is none, has no record, one that may be cut short, or a bad count; or its last number tells
+module _ (f : List ℕ) (tokens d t : ℕ) where
+  pub at-once-beyond : tokens ≤ t → false ≡ waitsAtOnce f tokens d t
+  unfolding waitsAtOnce
+  at-once-beyond h = rw (le-leb tokens t h)
+
+  module _ {place : ℕ} (inside : t < tokens) (place-is : place ≡ getD f (16384 + t) 0) where
+    pub at-once-none : place ≡ 0 → false ≡ waitsAtOnce f tokens d t
+    unfolding waitsAtOnce
+    at-once-none h = rw (lt-leb tokens t inside, ← place-is, h)
+
+    module _ (given : place ≡ 0 → ⊥) where
+      pub at-once-late : 16367 < place → false ≡ waitsAtOnce f tokens d t
+      unfolding waitsAtOnce
+      at-once-late h = rw (lt-leb tokens t inside, ← place-is, ne-eqb place 0 given, lt-leb place 16367 h)
+
+      module _ (low : place ≤ 16367) {n : ℕ} (n-is : n ≡ getD f place 0) where
+        pub at-once-empty : n < 1 → false ≡ waitsAtOnce f tokens d t
+        unfolding waitsAtOnce
+        at-once-empty h = rw (lt-leb tokens t inside, ← place-is, ne-eqb place 0 given, le-leb place 16367 low, ← n-is, lt-leb 1 n h)
+
+        module _ (some : 1 ≤ n) where
+          pub at-once-long : 16 < n → false ≡ waitsAtOnce f tokens d t
+          unfolding waitsAtOnce
+          at-once-long h =
+              rw (lt-leb tokens t inside, ← place-is, ne-eqb place 0 given, le-leb place 16367 low, ← n-is, le-leb 1 n some, lt-leb n 16 h)
+
+          pub at-once-last : n ≤ 16 → holdsOf f (Question.Left d) (getD f (place + n) 0) ≡ waitsAtOnce f tokens d t
+          unfolding waitsAtOnce holdsOf
+          at-once-last h =
+              rw (lt-leb tokens t inside, ← place-is, ne-eqb place 0 given, le-leb place 16367 low, ← n-is, le-leb 1 n some, le-leb n 16 h)
+
 -- a token whose record lies well among the records, and ends with a number that it still has, waits
-pub waits-last : (f : List ℕ) (tokens d t : ℕ) {place n : ℕ} → length f ≡ 24576 → t < tokens → place ≡ getD f (16384 + t) 0 → (place ≡ 0 → ⊥) → place ≤ 16367
+waits-last : (f : List ℕ) (tokens d t : ℕ) {place n : ℕ} → length f ≡ 24576 → t < tokens → place ≡ getD f (16384 + t) 0 → (place ≡ 0 → ⊥) → place ≤ 16367
     → n ≡ getD f place 0 → 1 ≤ n → n ≤ 16 → holdsOf f (Question.Left d) (getD f (place + n) 0) ≡ true → wakesOf f tokens d t ≡ Test.No
 unfolding numbersOf anyOf
 waits-last f tokens d t {place} {n} whole inside place-is given low n-is some few held =
@@ -161,3 +194,17 @@ waits-last f tokens d t {place} {n} whole inside place-is given low n-is some fe
     let part-is : numbersOf f t ≡ Numbers.Part (place + 1) (place + 1 + n) = ap (numbersAt f) (sym place-is) ∙ sym (at-good f n-is given (omega arith) some few) in
     sym (wakes-left f t refl tokens d inside part-is
     (rw size (any-within (holdsOf f (Question.Left d)) f (place + 1) n (n - 1) 0 (omega arith) (omega arith) (rw last held))) refl)
+
+-- a token that is seen at once to wait does not wake
+pub at-once-waits : (f : List ℕ) (tokens d t : ℕ) → length f ≡ 24576 → waitsAtOnce f tokens d t ≡ true → wakesOf f tokens d t ≡ Test.No
+unfolding waitsAtOnce holdsOf
+at-once-waits f tokens d t whole e =
+    let place : ℕ = getD f (16384 + t) 0 in
+    let n : ℕ = getD f place 0 in
+    let a = nor-true (leb tokens t) e in
+    let b = nor-true (eqb place 0) (a .1) in
+    let c = and-true (leb place 16367) (b .1) in
+    let g = and-true (leb 1 n) (c .1) in
+    let h = and-true (leb n 16) (g .1) in
+    waits-last f tokens d t {place = place} {n = n} whole (leb-false tokens t (a .0)) refl (eqb-false place 0 (b .0)) (leb-true place 16367 (c .0)) refl
+    (leb-true 1 n (g .0)) (leb-true n 16 (h .0)) (h .1)

@@ -12,10 +12,14 @@ use Rattle.rules.proofs.lists.Tests.{if-eta}
 use Rattle.tables.specs.declared.Tables.{Tables}
 use Rattle.tables.specs.State.{InRange, soundOf}
 
--- a test in front of another, as tables are tested: both hold
-and-true : (b : Bool) {x : Bool} → if b x false ≡ true → (b ≡ true) × (x ≡ true)
+-- a test in front of another, as tables are tested: both hold, or the first fails and the second holds
+pub and-true : (b : Bool) {x : Bool} → if b x false ≡ true → (b ≡ true) × (x ≡ true)
 and-true true e = (refl, e)
 and-true false e = let z : _≡_ {A = ℕ} 0 1 = cc in absurd (omega arith)
+
+pub nor-true : (b : Bool) {x : Bool} → if b false x ≡ true → (b ≡ false) × (x ≡ true)
+nor-true true e = let z : _≡_ {A = ℕ} 0 1 = cc in absurd (omega arith)
+nor-true false e = (refl, e)
 
 -- tables that pass the test are within their ranges
 pub sound-range : (t : Tables) (m : List ℕ) → soundOf (t, m) ≡ true → InRange t × (32768 ≤ length m)

@@ -1,7 +1,7 @@
 -- `fresh_state::counter` meets its contract, case by case.
 use mathlib.Core.Path.{ap, _∙_}
 use borrow.Author.Tests.{eq-eqb, ne-eqb}
-use Rattle.rules.specs.PipeKinds.{fullOf}
+use Rattle.vocabulary.specs.PipeKinds.{fullOf}
 use Rattle.rules.specs.Choices.{openedCounter}
 use borrow.Author.Needs.{needs}
 use Rattle.opening.proofs.fresh_state.counter.Statement.{statement}

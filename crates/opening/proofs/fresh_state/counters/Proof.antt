@@ -5,7 +5,7 @@ use native.Mathlib.Omega.{arith}
 use lib.ListN.{length, length-set}
 use Rattle.opening.specs.Opened.{openedCounters}
 use Rattle.state.proofs.in_range.Filling.{Filled}
-use Rattle.opening.proofs.openings.OpenedParts.{counters-first, counters-store, counters-line, counters-all}
+use Rattle.opening.proofs.OpenedParts.{counters-first, counters-store, counters-line, counters-all}
 use borrow.Author.Needs.{needs}
 use Rattle.opening.proofs.fresh_state.counters.Statement.{statement}
 use Rattle.opening.proofs.fresh_state.counters.Tie as tie

@@ -3,7 +3,7 @@ use mathlib.Core.Path.{_≡_, refl}
 use Prim.Native.Nat.{_≤_, _-_}
 use native.Mathlib.Omega.{arith}
 use lib.ListN.{length}
-use Rattle.opening.proofs.openings.OpenedParts.{serialsTo, serials-store, serials-all}
+use Rattle.opening.proofs.OpenedParts.{serialsTo, serials-store, serials-all}
 use borrow.Author.Needs.{needs}
 use Rattle.opening.proofs.fresh_state.serials.Statement.{statement}
 use Rattle.opening.proofs.fresh_state.serials.Tie as tie

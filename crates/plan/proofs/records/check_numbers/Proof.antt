@@ -6,10 +6,11 @@ use native.Mathlib.Omega.{arith}
 use lib.Dec.{leb, eqb}
 use lib.ListN.{length, drop}
 use Rattle.plan.specs.declared.verdict.Check.the-variants.{Failed}
-use Rattle.plan.specs.Bytes.{fields}
+use Rattle.fields.specs.Bytes.{fields}
 use Rattle.rules.specs.Lists.{must}
 use Rattle.plan.specs.Records.{numbersFrom}
-use Rattle.rules.specs.declared.refusal.Refusal.the-variants.{RecordLayout, ListsItself}
+use Rattle.vocabulary.specs.declared.refusal.Refusal.the-variants.{RecordLayout, ListsItself}
+use Rattle.fields.proofs.Fields.{field-inside}
 use Rattle.plan.proofs.Steps.{numbers-turn, numbers-end}
 use Rattle.rules.proofs.lists.Tests.{tests}
 use Rattle.plan.proofs.records.check_numbers.Statement.{statement}
@@ -28,24 +29,24 @@ loop-holds c = (omega arith, refl)
 add-loop : tie.Need-add-loop Inv-loop μ-loop
 add-loop c = omega arith
 
-field-requires : tie.Need-field-requires Inv-loop μ-loop
-field-requires c κs = omega arith
+field-or-zero-requires : tie.Need-field-or-zero-requires Inv-loop μ-loop
+field-or-zero-requires c κs = omega arith
 
 cast-n : tie.Need-cast-n Inv-loop μ-loop
 cast-n c = omega arith
 
 -- in a turn: the check of all numbers is that of this one, and then of those after it
-turn-is : (c : tie.After-field Inv-loop μ-loop) →
+turn-is : (c : tie.After-field-or-zero Inv-loop μ-loop) →
     let l = c .before .before in
     let args = l .before .before .args in
-    let n = c .field .result in
+    let n = c .field-or-zero .result in
     numbersFrom (args .token) 0 (fields (args .numbers .now))
     ≡ must (leb (l .loop .floor) n) (Failed RecordLayout)
     (must (not (eqb n (args .token))) (Failed ListsItself) (numbersFrom (args .token) (n + 1) (fields (drop (l .loop .at + 2) (args .numbers .now)))))
 turn-is c =
     let l = c .before .before in
     let args = l .before .before .args in
-    rw (l .loop .inv .1, numbers-turn (args .numbers .now) (l .loop .at) (args .token) (l .loop .floor) (omega arith), c .field .ensures)
+    rw (l .loop .inv .1, numbers-turn (args .numbers .now) (l .loop .at) (args .token) (l .loop .floor) (omega arith), field-inside _ _ (omega arith) (c .field-or-zero .ensures))
 
 returns : tie.Need-returns Inv-loop μ-loop
 returns c = rw (turn-is (c .before)) (search tests)
@@ -76,7 +77,7 @@ check-numbers-spec =
     μ-loop
     loop-holds
     add-loop
-    field-requires
+    field-or-zero-requires
     cast-n
     returns
     returns-2

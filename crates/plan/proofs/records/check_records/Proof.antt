@@ -11,9 +11,10 @@ use lib.ListN.{length, drop, length-drop}
 use Rattle.rules.specs.Lists.{must}
 use Rattle.plan.specs.Checks.{both}
 use Rattle.plan.specs.Records.{tokenOf, countOf, recordsCheck, recordsFrom}
+use Rattle.fields.proofs.Fields.{field-inside}
 use Rattle.plan.proofs.Facts.{RecordFacts, record-passed}
 use Rattle.plan.proofs.Steps.{take-rest, records-turn, records-end}
-use Rattle.rules.specs.declared.refusal.Refusal.the-variants.{RecordLayout}
+use Rattle.vocabulary.specs.declared.refusal.Refusal.the-variants.{RecordLayout}
 use Rattle.plan.specs.declared.verdict.Check.the-variants.{Passed, Failed}
 use Rattle.rules.proofs.lists.Tests.{tests}
 use Rattle.plan.proofs.records.check_records.Statement.{statement}
@@ -78,14 +79,14 @@ facts : (c : tie.After-enum-told Inv-loop μ-loop) →
     RecordFacts (l .before .before .args .tokens) (l .loop .floor) (l .loop .total) (rest l)
 facts c = record-passed _ _ _ _ (rw take-rest at (sym (c .before .before .check-record .ensures) ∙ c .enum-told .given .1))
 
-field-requires : tie.Need-field-requires Inv-loop μ-loop
-field-requires c κs = rw take-rest (omega (arith, facts c))
+field-or-zero-requires : tie.Need-field-or-zero-requires Inv-loop μ-loop
+field-or-zero-requires c κs = search needs
 
 cast-count : tie.Need-cast-count Inv-loop μ-loop
 cast-count c = search needs
 
-field-requires-2 : tie.Need-field-requires-2 Inv-loop μ-loop
-field-requires-2 c κs = rw take-rest (omega (arith, facts (c .before)))
+field-or-zero-requires-2 : tie.Need-field-or-zero-requires-2 Inv-loop μ-loop
+field-or-zero-requires-2 c κs = search needs
 
 cast-floor : tie.Need-cast-floor Inv-loop μ-loop
 cast-floor c = search needs
@@ -94,17 +95,17 @@ add-floor : tie.Need-add-floor Inv-loop μ-loop
 add-floor c = search needs
 
 -- the token and the count that were read are the record's
-token-is : (c : tie.After-field2 Inv-loop μ-loop) → c .field2 .result ≡ tokenOf (rest (c .before .before .before .before .before .before .before))
-token-is c = rw take-rest at (c .field2 .ensures)
+token-is : (c : tie.After-field-or-zero2 Inv-loop μ-loop) → c .field-or-zero2 .result ≡ tokenOf (rest (c .before .before .before .before .before .before .before))
+token-is c = field-inside _ _ (omega (arith, facts (c .before .before))) (rw take-rest at (c .field-or-zero2 .ensures))
 
-count-is : (c : tie.After-field2 Inv-loop μ-loop) → c .before .field .result ≡ countOf (rest (c .before .before .before .before .before .before .before))
-count-is c = rw take-rest at (c .before .field .ensures)
+count-is : (c : tie.After-field-or-zero2 Inv-loop μ-loop) → c .before .field-or-zero .result ≡ countOf (rest (c .before .before .before .before .before .before .before))
+count-is c = field-inside _ _ (omega (arith, facts (c .before .before))) (rw take-rest at (c .before .field-or-zero .ensures))
 
 -- the record is whole, and the running total is not too large
-sizes : (c : tie.After-field2 Inv-loop μ-loop) →
+sizes : (c : tie.After-field-or-zero2 Inv-loop μ-loop) →
     let l = c .before .before .before .before .before .before .before in
-    (l .loop .at + (4 + 2 * c .before .field .result) ≤ length (l .before .before .args .part .now))
-    × (l .loop .total + c .before .field .result ≤ 8192)
+    (l .loop .at + (4 + 2 * c .before .field-or-zero .result) ≤ length (l .before .before .args .part .now))
+    × (l .loop .total + c .before .field-or-zero .result ≤ 8192)
 sizes c =
     let l = c .before .before .before .before .before .before .before in
     omega (arith, count-is c, facts (c .before .before), length-drop (l .loop .at) (l .before .before .args .part .now))
@@ -161,9 +162,9 @@ check-records-spec =
     enum-known-r
     returns
     enum-told
-    field-requires
+    field-or-zero-requires
     cast-count
-    field-requires-2
+    field-or-zero-requires-2
     cast-floor
     add-floor
     add-total

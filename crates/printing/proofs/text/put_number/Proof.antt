@@ -1,7 +1,7 @@
 -- `put_number` puts a space and the number's decimal digits.
 use native.Mathlib.Omega.{arith}
 use borrow.Author.Needs.{needs}
-use Rattle.printing.proofs.lines.Putting as laws
+use Rattle.printing.proofs.Lines as laws
 use Rattle.printing.proofs.text.put_number.Statement.{statement}
 use Rattle.printing.proofs.text.put_number.Tie as tie
 

@@ -1,51 +1,36 @@
 -- `put_refusal` puts the line of a refusal.
 use borrow.Author.Needs.{needs}
-use Rattle.printing.proofs.lines.Putting as laws
+use Rattle.printing.proofs.Lines as laws
 use Rattle.printing.proofs.text.put_refusal.Statement.{statement}
 use Rattle.printing.proofs.text.put_refusal.Tie as tie
+
+slice-aggregate-put-short : tie.Need-slice-aggregate-put-short
+slice-aggregate-put-short c = search needs
 
 number-requires : tie.Need-number-requires
 number-requires c κs = search needs
 
-slice-aggregate-put : tie.Need-slice-aggregate-put
-slice-aggregate-put c = search needs
+cast-put-short : tie.Need-cast-put-short
+cast-put-short c = search needs
 
-put-requires : tie.Need-put-requires
-put-requires c κs = search needs
-
-cast-put-number : tie.Need-cast-put-number
-cast-put-number c = search needs
-
-put-number-requires : tie.Need-put-number-requires
-put-number-requires c κs = search needs
-
-slice-aggregate-put-2 : tie.Need-slice-aggregate-put-2
-slice-aggregate-put-2 c = search needs
-
-put-requires-2 : tie.Need-put-requires-2
-put-requires-2 c κs = search needs
+put-short-requires : tie.Need-put-short-requires
+put-short-requires c κs = search needs
 
 same-length : tie.Need-same-length
 same-length c = search needs
 
 returns : tie.Need-returns
 returns c =
-    let after-end = c .before .before in
-    let after-number = after-end .before .before .before .before .before in
-    let after-letter = after-number .before .before .before .before in
-    rw (← after-letter .before .before .before .number .ensures)
-    (laws.put-refusal _ _ (after-letter .put .ensures) (after-number .put-number .ensures) (after-end .put2 .ensures))
+    let at-short = c .before .before in
+    laws.put-refusal _ (at-short .before .number .ensures) (at-short .put-short .ensures)
 
 pub put-refusal-spec : {M : Type 1} → statement M
 put-refusal-spec =
     tie.close
     (tie.spec
+    slice-aggregate-put-short
     number-requires
-    slice-aggregate-put
-    put-requires
-    cast-put-number
-    put-number-requires
-    slice-aggregate-put-2
-    put-requires-2
+    cast-put-short
+    put-short-requires
     same-length
     returns)

@@ -1,7 +1,7 @@
 -- `put_step` puts the four numbers of a step, and ends the line.
 use native.Mathlib.Omega.{arith}
 use borrow.Author.Needs.{needs}
-use Rattle.printing.proofs.lines.Putting as laws
+use Rattle.printing.proofs.Lines as laws
 use Rattle.printing.proofs.text.put_step.Statement.{statement}
 use Rattle.printing.proofs.text.put_step.Tie as tie
 

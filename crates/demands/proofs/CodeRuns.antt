@@ -1,0 +1,149 @@
+-- Every session of the code is as the demands say, and a refused opening changes nothing.
+use mathlib.Core.Path.{_≡_, refl, sym, ap, subst, _∙_}
+use mathlib.Core.Bool.{true}
+use mathlib.Core.List.{List, [], _∷_, _++_, map}
+use Prim.Native.Nat.{ℕ, _≤_}
+use lib.ListN.{length}
+use Rattle.rules.specs.Lists.{Every, within}
+use Rattle.rules.specs.RunState.{Machine}
+use Rattle.rules.specs.Choices as rules
+use Rattle.rules.specs.Choices.{Refused, choose, answers, follow, ended, opened}
+use Rattle.rules.specs.Ranges.{sound, numbersSound}
+use Rattle.rules.specs.WholeRuns.{WorkersInRange}
+use Rattle.rules.specs.Answers.{answerOf}
+use Rattle.vocabulary.specs.declared.answer.Answer.{Answer}
+use Rattle.vocabulary.specs.declared.refusal.Refusal.{Refusal}
+use Rattle.rules.proofs.lists.Tests.{by-test}
+use Rattle.fields.specs.Bytes.{Bytes}
+use Rattle.plan.specs.Plan.{Plan, Valid, encode}
+use Rattle.plan.specs.Reading.{refused, readOf}
+use Rattle.plan.proofs.Theorem.{one-plan}
+use Rattle.tables.specs.State as tables
+use Rattle.tables.specs.Calls.{memorySource}
+use Rattle.loading.specs.Plans.{pipelineOf}
+use Rattle.demands.specs.Demands.{begun, told, left, endState, Demands}
+use Rattle.state.specs.Machines.{machineOf}
+use Rattle.engine.specs.Machines.{chosenOf}
+use Rattle.state.specs.Ending.{endedOf}
+use Rattle.opening.specs.Opened.{stateOf, openOf, refusedWith}
+use Rattle.demands.specs.OpenedRun.{OpenedRun}
+use Rattle.demands.specs.CodeRuns.{OpenCall, Calls, no-call, call, Session, eventsOf, SameEnd, CodeDemands, RefusedOpening}
+use Rattle.state.specs.declared.State.{State}
+use Rattle.opening.specs.declared.Opening.{Opening}
+use Rattle.opening.specs.declared.Opened.{Opened}
+use Rattle.demands.proofs.Opens.{refusing, opened-run}
+use Rattle.state.proofs.in_range.SoundLaws.{ended-is as ended-as-rules}
+use Rattle.demands.proofs.Unchanged.{refused-unchanged}
+
+-- the calls' answers and the machine that they leave are those of the rules' lists of choices
+calls-told : {s t : State} {m end ls : List ℕ} {told : List Answer} → Calls s m ls told t end →
+    (map answerOf told ≡ answers memorySource (machineOf s m) ls) × (machineOf t end ≡ follow memorySource (machineOf s m) ls)
+unfolding answers follow chosenOf
+calls-told no-call = (refl, refl)
+calls-told (call {a = a} e rest) =
+    let (told-is, left-is) = calls-told rest in
+    rw (← ap (λ c. c .answer) e, ← ap (λ c. c .machine) e) (ap (λ (l : List rules.Answer). answerOf a ∷ l) told-is, left-is)
+
+-- where no answer is 14, neither is that of the last choice
+last-unspoiled : (a : Machine tables.State) (ls : List ℕ) (l : ℕ) →
+    Every (λ x. x ≡ Refused 14 → ⊥) (answers memorySource a (ls ++ (l ∷ []))) → choose memorySource (follow memorySource a ls) l .answer ≡ Refused 14 → ⊥
+unfolding answers follow
+last-unspoiled a [] l each = each .0
+last-unspoiled a (k ∷ ls) l each = last-unspoiled (choose memorySource a k .machine) ls l (each .1)
+
+module _ {p : Plan} (demands : Demands p) (m : List ℕ) (enough : 32768 ≤ length m) {workers : ℕ} (manned : WorkersInRange workers) (ls : List ℕ) where
+  -- the numbers that a run leaves are in range: no choice after it gets 14
+  left-sound : sound memorySource (left p m workers ls) ≡ true
+  unfolding choose
+  left-sound = by-test (sound memorySource (left p m workers ls))
+      (λ yes. yes)
+      (λ no. absurd (last-unspoiled _ ls 0 (demands .runs m enough workers manned (ls ++ (0 ∷ [])) .never-spoiled) (rw no)))
+
+-- a session is one of this plan's runs
+record RunOf (p : Plan) {file : List ℕ} {workers : ℕ} {m ls : List ℕ} (s : Session file workers m ls) : Type 0 where
+  events-are : eventsOf s ≡ told p m workers ls
+  left-is : machineOf (s .state) (s .memory) ≡ left p m workers ls
+  ended-is : endedOf (s .state) ≡ ended (left p m workers ls)
+
+module _ {file : List ℕ} (bytes : Bytes file) where
+  module _ {workers : ℕ} {m ls : List ℕ} (s : Session file workers m ls) where
+    -- its opening
+    here : OpenedRun file workers m
+    here = opened-run file bytes workers m (ap (λ o. o .answer) (sym (s .opens .0)) ∙ s .accepts)
+
+    begins : machineOf (s .opening .state) (s .begun) ≡ opened (pipelineOf (here .plan)) workers (begun (here .plan) m)
+    begins =
+        ap (λ o. machineOf (o .state) (s .begun)) (s .opens .0)
+        ∙ ap (machineOf (openOf file workers m .0 .state)) (s .opens .1)
+        ∙ here .machine
+
+    run-here : RunOf (here .plan) s
+    run-here =
+        let (told-is, left-is) = calls-told (s .calls) in
+        let end = left-is ∙ ap (λ a. follow memorySource a ls) begins in
+        let in-range = ap (sound memorySource) end ∙ left-sound (here .demands) m (here .enough) (here .manned) ls in
+        record {
+          events-are = told-is ∙ ap (λ a. answers memorySource a ls) begins;
+          left-is = end;
+          ended-is = ended-as-rules (s .state) (s .memory) in-range ∙ ap ended end;
+        }
+
+    -- it is a run of every valid plan with this file
+    run-of : (p : Plan) → Valid p → file ≡ encode p → RunOf p s
+    run-of p valid file-is = subst (λ q. RunOf q s) (one-plan (here .plan) p (here .valid) valid (sym (here .file-is) ∙ file-is)) run-here
+
+  -- the end states of two sessions
+  module _ {w v : ℕ} {m k ls ks : List ℕ} (s : Session file w m ls) (t : Session file v k ks) where
+    one-end : endedOf (s .state) ≡ true → endedOf (t .state) ≡ true → SameEnd (s .state) (s .memory) (t .state) (t .memory)
+    unfolding machineOf
+    one-end e f =
+        let a = here s in
+        let r = run-here s in
+        let q = run-of t (a .plan) (a .valid) (a .file-is) in
+        let same : endState (machineOf (s .state) (s .memory)) ≡ endState (machineOf (t .state) (t .memory)) =
+        ap endState (r .left-is)
+        ∙ a .demands .same-end m k w v (a .manned) (here t .manned) ls ks (sym (r .ended-is) ∙ e) (sym (q .ended-is) ∙ f)
+        ∙ ap endState (sym (q .left-is)) in
+        record { states = ap stateOf same; memories = ap (λ a. a .source .1) same }
+
+  -- every session is as the demands say
+  pub code-demands : {workers : ℕ} {m ls : List ℕ} (s : Session file workers m ls) → CodeDemands s
+  code-demands {workers} {m} {ls} s =
+      let a = here s in
+      let r = run-here s in
+      record {
+        plan = a .plan;
+        valid = a .valid;
+        file-is = a .file-is;
+        manned = a .manned;
+        enough = a .enough;
+        told-is = r .events-are;
+        left-is = r .left-is;
+        shows = rw (r .events-are, r .left-is, r .ended-is) (a .demands .runs m (a .enough) workers (a .manned) ls);
+        same-end = λ t. one-end s t;
+        one-worker = λ {m} t. rw (run-of t (a .plan) (a .valid) (a .file-is) .events-are) (a .demands .one-worker m);
+        one-worker-stops = λ {m} t last. rw (run-of t (a .plan) (a .valid) (a .file-is) .events-are) (a .demands .one-worker-stops m last);
+        one-worker-ends = λ {m} t. run-of t (a .plan) (a .valid) (a .file-is) .ended-is ∙ a .demands .one-worker-ends m;
+      }
+
+-- a choice on a state of zeros is refused with 14
+zeros-refused : (why : Refusal) (m : List ℕ) (l : ℕ) → choose memorySource (machineOf (refusedWith why .state) m) l .answer ≡ Refused 14
+unfolding choose sound numbersSound within machineOf refusedWith
+zeros-refused why m l = refl
+
+-- a refused opening writes nothing, and a choice on what it returns gets 14
+pub refused-opening : (file : List ℕ) (workers : ℕ) (m : List ℕ) (o : Opened) (m′ : List ℕ) (why : Refusal) →
+    OpenCall file workers m o m′ → o .answer ≡ Opening.Refused why → RefusedOpening why m o m′
+unfolding chosenOf
+refused-opening file workers m o m′ why (o-is, m-is) e =
+    let (zeros, kept) = refusing (readOf file) workers m why (ap (λ x. x .answer) (sym o-is) ∙ e) in
+    let all-zeros : o ≡ refusedWith why = o-is ∙ zeros in
+    record {
+      zeros = all-zeros;
+      kept = m-is ∙ kept;
+      spoiled = λ mem l r mem′ called.
+          let spoiled : answerOf (r .answer) ≡ Refused 14 =
+          ap (λ c. c .answer) called
+          ∙ subst (λ x. choose memorySource (machineOf (x .state) mem) l .answer ≡ Refused 14) (sym all-zeros) (zeros-refused why mem l) in
+          let (same, same-memory) = refused-unchanged (o .state) mem l r mem′ 14 called spoiled in (spoiled, same, same-memory);
+    }

@@ -1,0 +1,2 @@
+-- What is printed of choices.
+pub mod PrintedLaws

@@ -1,0 +1,2 @@
+-- What is printed of the choices.
+pub mod Printed

@@ -1,0 +1,2 @@
+-- Fields and their bytes.
+pub mod Fields

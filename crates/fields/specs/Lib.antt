@@ -1,0 +1,2 @@
+-- Two-byte fields.
+pub mod Bytes

@@ -1,0 +1,2 @@
+-- The proofs of the look over a state.
+pub mod in_range

@@ -1,0 +1,2 @@
+-- Where output goes.
+pub mod Sinks

@@ -1,0 +1,27 @@
+-- `taking::in_range::defer` meets its contract.
+use borrow.Author.Needs.{needs}
+use Rattle.taking.proofs.in_range.defer.Statement.{statement}
+use Rattle.taking.proofs.in_range.defer.Tie as tie
+
+add-enter : tie.Need-add-enter
+add-enter c = search needs
+
+enter-requires : tie.Need-enter-requires
+enter-requires c κs = search needs
+
+mark-deferred-requires : tie.Need-mark-deferred-requires
+mark-deferred-requires c κs = search needs
+
+same-length : tie.Need-same-length
+same-length c = search needs
+
+returns : tie.Need-returns
+returns c =
+    let at-mark-deferred = c .before .before in
+    let at-enter = at-mark-deferred .before .before .before .before in
+    rw (at-mark-deferred .mark-deferred .ensures, at-enter .enter .ensures)
+
+pub defer-spec : {M : Type 1} → statement M
+defer-spec =
+    tie.close
+    (tie.spec add-enter enter-requires mark-deferred-requires same-length returns)

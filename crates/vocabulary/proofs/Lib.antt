@@ -1,0 +1,2 @@
+-- By a test that holds, or does not.
+pub mod Branches

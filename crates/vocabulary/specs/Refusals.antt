@@ -1,0 +1,22 @@
+-- The paper's number of each refusal (01, "When the engine says no").
+use Prim.Native.Nat.{ℕ}
+use Rattle.vocabulary.specs.declared.refusal.Refusal.{Refusal}
+use Rattle.vocabulary.specs.declared.refusal.Refusal.the-variants.{FileSize, PartSizes, Limits, Pipes, RecordLayout, ListsItself, TotalCount}
+use Rattle.vocabulary.specs.declared.refusal.Refusal.the-variants.{Workers, Memory, NoLine, Ended, Early, Crowded, Spoiled}
+
+-- column "Returned" of the table
+abbrev pub numberOf : Refusal → ℕ
+numberOf FileSize = 1
+numberOf PartSizes = 2
+numberOf Limits = 3
+numberOf Pipes = 4
+numberOf RecordLayout = 5
+numberOf ListsItself = 6
+numberOf TotalCount = 7
+numberOf Workers = 8
+numberOf Memory = 9
+numberOf NoLine = 10
+numberOf Ended = 11
+numberOf Early = 12
+numberOf Crowded = 13
+numberOf Spoiled = 14

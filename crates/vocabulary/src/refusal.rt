@@ -1,0 +1,59 @@
+// Why a plan, an opening or a choice is refused.
+ghost use mathlib.Core.Path.{_≡_};
+ghost use Rattle.vocabulary.specs.Refusals.{numberOf};
+
+// A case for each number of document 01.
+pub enum Refusal {
+    // 1: the file is below 12 or above 32,796 bytes
+    FileSize,
+    // 2: A + P + 12 differs from the file's length
+    PartSizes,
+    // 3: the edition is not 1, or P, L or N is beyond its range
+    Limits,
+    // 4: a pipe byte other than 83 or 80, or pipe 0 parallel
+    Pipes,
+    // 5: a record breaks the layout
+    RecordLayout,
+    // 6: a token lists itself
+    ListsItself,
+    // 7: the counts are above 8,192 together
+    TotalCount,
+    // 8: W is not 1 to 32
+    Workers,
+    // 9: fewer than 32,768 numbers are lent
+    Memory,
+    // 10: the line is L or more
+    NoLine,
+    // 11: the run has ended
+    Ended,
+    // 12: the line waits with a counter above 0
+    Early,
+    // 13: the line waits with counter 0, but W or more lines run
+    Crowded,
+    // 14: the state or the memory is spoiled
+    Spoiled,
+}
+
+impl Refusal {
+    // The paper's number of a refusal.
+    pub fn number(self) -> u16
+        ensures { λ r. ⌜ r ≡ numberOf self ⌝ }
+    {
+        match self {
+            Refusal::FileSize => 1,
+            Refusal::PartSizes => 2,
+            Refusal::Limits => 3,
+            Refusal::Pipes => 4,
+            Refusal::RecordLayout => 5,
+            Refusal::ListsItself => 6,
+            Refusal::TotalCount => 7,
+            Refusal::Workers => 8,
+            Refusal::Memory => 9,
+            Refusal::NoLine => 10,
+            Refusal::Ended => 11,
+            Refusal::Early => 12,
+            Refusal::Crowded => 13,
+            Refusal::Spoiled => 14,
+        }
+    }
+}
