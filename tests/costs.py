@@ -1,13 +1,19 @@
 #!/usr/bin/env python3
 """What the proofs cost: for each crate the lines of code, of specs and of proof, their ratio, and the seconds to check it.
 
-    python3 tests/costs.py          lines, with the seconds of the last check if its logs are there
-    python3 tests/costs.py --check  checks every crate from nothing first, one at a time
+    python3 tests/costs.py                lines, with the seconds of the last check if its logs are there
+    python3 tests/costs.py --check        checks every crate from nothing first, one at a time
+    python3 tests/costs.py --slow NAME..  which modules of these crates take the time of a check
 
 Lines are those that are neither empty nor a comment. Contracts stand in the code's files and are counted with the specs.
+
+What is slow is read off the folder in which `rt dev` keeps what it has checked: from nothing, a module's file is written there
+when it has been checked, one after the other. A function has several modules, which the prover makes of its code: `Lts` is the walk
+through it, `Tie` its calls, `Reads` its contract; `Proof` is the file in proofs/.
 """
 
 import re
+import shutil
 import subprocess
 import sys
 from pathlib import Path
@@ -86,12 +92,50 @@ def checked_last(names):
     return seconds
 
 
+# What the prover makes of a function, beside the proof that stands in proofs/.
+MADE = ("Lts", "Tie", "Reads", "Kinds", "Layout", "Code", "Met", "Statement")
+
+
+def module_seconds(name):
+    """Seconds that each module of a crate took in a check from nothing."""
+    subprocess.run(["rt", "dev", name], cwd=ROOT, capture_output=True)  # what it depends on is proved first
+    kept = ROOT / "target" / "inc" / name
+    shutil.rmtree(kept, ignore_errors=True)
+    said = subprocess.run(["rt", "dev", name], cwd=ROOT, capture_output=True, text=True)
+    if said.returncode != 0:
+        sys.exit(said.stdout + said.stderr)
+    written = sorted((path.stat().st_mtime, path.name) for path in kept.rglob("*") if path.is_file())
+    seconds = {}
+    for (before, _), (after, file) in zip(written, written[1:]):
+        module = re.sub(r"(\.decls)?\.oantt$", "", file)
+        module = re.sub(r"^Rattle·\w+(·proofs\.proofs|·specs\.specs)?\.?", "", module)
+        seconds[module] = seconds.get(module, 0) + after - before
+    return seconds
+
+
+def print_slow(name, most=15):
+    seconds = module_seconds(name)
+    kinds = {}
+    for module, took in seconds.items():
+        last = module.rpartition(".")[2]
+        kind = last if last in MADE + ("Proof",) else "the rest"
+        kinds[kind] = kinds.get(kind, 0) + took
+    parts = ", ".join(f"{kind} {took:.1f}" for kind, took in sorted(kinds.items(), key=lambda pair: -pair[1]) if took >= 0.05)
+    print(f"{name}: {sum(seconds.values()):.1f} s: {parts}")
+    for module, took in sorted(seconds.items(), key=lambda pair: -pair[1])[:most]:
+        print(f"  {took:6.2f}  {module or '(loading)'}")
+
+
 def row(name, code, specs, proof, seconds):
     ratio = f"{proof / code:.1f}" if code else "-"
     return f"| {name} | {code} | {specs} | {proof} | {ratio} | {seconds} |"
 
 
 def main():
+    if sys.argv[1:2] == ["--slow"]:
+        for name in sys.argv[2:]:
+            print_slow(name)
+        return
     names = crates()
     seconds = checked_now(names) if "--check" in sys.argv[1:] else checked_last(names)
     print("| crate | code | specs and contracts | proof | proof / code | seconds |")

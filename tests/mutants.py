@@ -29,7 +29,7 @@ from collections import Counter
 from pathlib import Path
 
 ROOT = Path(__file__).resolve().parent.parent
-CRATES = ["rules", "plan", "tables", "printing", "state", "opening", "engine", "whole_run", "session"]
+CRATES = ["vocabulary", "fields", "plan", "tables", "facts", "taking", "releasing", "sink", "printing", "state", "ranges", "loading", "opening", "engine", "session", "feeding", "whole_run"]
 KINDS = ["comparison", "constant", "swap", "drop"]
 
 # Without --all a function with a contract gets one mutant, or two if many can be made of it. Of
@@ -45,7 +45,7 @@ LONGEST_ABOVE = 1800
 # Survivors that are no gap: label -> (the line after the change, why). The line stands there so that
 # a label which comes to mean another change, as the code changes, is asked about again.
 KNOWN = {
-    "tables/facts.rt:numbers_at:comparison-2": (
+    "facts/tokens.rt:numbers_at:comparison-2": (
         "if POSITIONS < place {",
         "the same: at the place POSITIONS the next test but one, POSITIONS < place + 1 + count, holds whatever the count is",
     ),
