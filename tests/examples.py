@@ -15,9 +15,9 @@ FOLDER = os.path.join(ROOT, "examples")
 sys.path.insert(0, os.path.join(HERE, "second"))
 
 from plan_file import Plan, encode, read  # noqa: E402
+from makers import by_practice, one_worker_list, program_input  # noqa: E402
 from program import output  # noqa: E402
 from run import Run  # noqa: E402
-from sheet import plain_sheet  # noqa: E402
 
 SERIAL, PARALLEL = True, False
 
@@ -35,12 +35,7 @@ PLANS = {
 
 def one_worker(plan):
     """The paper's one-worker run: each place through all pipes, then the line that stops."""
-    order = plain_sheet(plan).order
-    choices = []
-    for place in range(len(order)):
-        choices += [place % plan.lines] * (2 * len(plan.pipes))
-    choices.append(len(order) % plan.lines)
-    return bytes([1] + choices)
+    return program_input(1, one_worker_list(plan))
 
 
 def all_lines(plan, workers):
@@ -49,12 +44,12 @@ def all_lines(plan, workers):
     choices = []
     line = 0
     while not run.ended:
-        while run.refusal(line):
+        while run.refusal(run.practice_worker(line), line):
             line = (line + 1) % plan.lines
-        choices.append(line)
-        run.choose(line)
+        choices.append((run.practice_worker(line), line))
+        run.choose(*choices[-1])
         line = (line + 1) % plan.lines
-    return bytes([workers] + choices)
+    return program_input(workers, choices)
 
 
 def orders():
@@ -62,7 +57,8 @@ def orders():
     for name, plan in PLANS.items():
         yield name + ".one-worker", name, one_worker(plan)
         yield name + ".all-lines", name, all_lines(plan, min(plan.lines, 32))
-    yield "overtaking.overtakes", "overtaking", bytes([2, 0, 0, 0, 1, 1, 1, 1])
+    plan = PLANS["overtaking"]
+    yield "overtaking.overtakes", "overtaking", program_input(2, by_practice(plan, 2, [0, 0, 0, 1, 1, 1, 1]))
 
 
 def files():

@@ -82,12 +82,12 @@ def random_workers(chance):
 def random_choices(chance, plan, workers, most):
     manner = chance.below(6)
     if manner == 0 or not 1 <= workers <= 32:
-        return makers.random_list(chance, plan, chance.between(0, min(most, 2000)), past=4)
+        return makers.random_list(chance, plan, workers, chance.between(0, min(most, 2000)), past=4)
     if manner == 1:
         choices = makers.one_worker_list(plan)[:most]
-        return choices + [0, plan.lines] if chance.one_in(2) else choices
+        return choices + [(0, 0), (0, plan.lines), (workers, 0)] if chance.one_in(2) else choices
     if manner == 2:
-        return [chance.below(256) for _ in range(chance.between(0, 100))]
+        return [(chance.below(256), chance.below(256)) for _ in range(chance.between(0, 50))]
     return makers.allowed_list(chance, plan, workers, most, strays=chance.pick([0, 2, 6, 20]))
 
 
@@ -108,6 +108,9 @@ def random_case(chance):
         return data, bytes(chance.below(34) for _ in range(chance.below(6)))
     workers = random_workers(chance)
     stdin = makers.program_input(workers, random_choices(chance, plan, workers, most))
+    if chance.one_in(8):
+        # A lone last byte.
+        stdin += bytes([chance.below(4)])
     return data, b"" if chance.one_in(100) else stdin
 
 
@@ -169,7 +172,7 @@ def summary(cases, figures):
         f" refused plans {by_number('plans', range(1, 8))};"
         f" refused openings {by_number('openings', [8])};"
         f" choices {figures['choices']}; accepted choices {figures['accepted choices']};"
-        f" refused choices {by_number('choices', range(10, 14))};"
+        f" refused choices {by_number('choices', [10, 11, 12, 13, 26])};"
         f" ended runs {figures['ended runs']}"
     )
 

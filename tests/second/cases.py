@@ -37,5 +37,5 @@ CASES = {
 
 # Case a is given whole.
 CASE_A_FILE = bytes.fromhex("53 00 00 01 00 01 00 01 00 00 00 01 00")
-CASE_A_INPUT = bytes.fromhex("01 00 00 00")
-CASE_A_OUTPUT = b"S 0 0 0 0\nF 0 0 0 0\nX 0\nE\n"
+CASE_A_INPUT = bytes.fromhex("01 00 00 00 00 00 00")
+CASE_A_OUTPUT = b"S 0 0 0 0 0\nF 0 0 0 0 0\nX 0 0\nE\n"

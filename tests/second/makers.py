@@ -215,37 +215,63 @@ def start_of(data):
     return min(data[at] + 256 * data[at + 1], at)
 
 
-# Lists of choices.
+# Lists of choices, each a worker and a line.
 
-def one_worker_list(plan):
-    """The one-worker run of the paper, to be opened with W = 1."""
-    ordered = len(plain_sheet(plan).order)
+def by_practice(plan, workers, lines):
+    """The choices of lines that are listed alone: practice's workers go with them."""
+    run = Run(plan, workers)
     choices = []
-    for k in range(ordered):
-        choices += [k % plan.lines] * (2 * len(plan.pipes))
-    choices.append(ordered % plan.lines)
+    for line in lines:
+        choices.append((run.practice_worker(line), line))
+        run.choose(*choices[-1])
     return choices
 
 
-def round_robin_list(plan, many):
-    return [i % plan.lines for i in range(many)]
-
-
-def random_list(chance, plan, many, past=0):
-    """Any lines, and now and then one up to `past` beyond them."""
+def one_worker_list(plan):
+    """The one-worker run of the paper, to be opened with W = 1: worker 0 makes all its choices."""
+    ordered = len(plain_sheet(plan).order)
     choices = []
+    for k in range(ordered):
+        choices += [(0, k % plan.lines)] * (2 * len(plan.pipes))
+    choices.append((0, ordered % plan.lines))
+    return choices
+
+
+def round_robin_list(plan, workers, many):
+    return by_practice(plan, workers, [i % plan.lines for i in range(many)])
+
+
+def random_lines(chance, plan, many, past=0):
+    """Any lines, and now and then one up to `past` beyond them."""
+    lines = []
     for _ in range(many):
         if past and chance.one_in(12):
-            choices.append(min(255, plan.lines + chance.below(past)))
+            lines.append(min(255, plan.lines + chance.below(past)))
         else:
-            choices.append(chance.below(plan.lines))
+            lines.append(chance.below(plan.lines))
+    return lines
+
+
+def random_list(chance, plan, workers, many, past=0):
+    """Any lines, mostly by the worker that practice would name, else by any, now and then one beyond W."""
+    lines = random_lines(chance, plan, many, past)
+    if not 1 <= workers <= 32:
+        return [(chance.below(4), line) for line in lines]
+    run = Run(plan, workers)
+    choices = []
+    for line in lines:
+        worker = run.practice_worker(line)
+        if chance.one_in(4):
+            worker = chance.below(workers + (2 if past else 0))
+        choices.append((worker, line))
+        run.choose(worker, line)
     return choices
 
 
 def allowed_list(chance, plan, workers, most, strays=0):
-    """Allowed lines picked by chance until the run has ended.
+    """Allowed choices picked by chance until the run has ended.
 
-    With `strays`, about one choice in so many is any line at all instead.
+    With `strays`, about one choice in so many is any worker and line instead.
     A leaning to start or to finish makes for many or few running lines.
     """
     run = Run(plan, workers)
@@ -253,21 +279,22 @@ def allowed_list(chance, plan, workers, most, strays=0):
     choices = []
     while len(choices) < most and not run.ended:
         if strays and chance.one_in(strays):
-            line = chance.below(plan.lines + 2)
+            worker, line = chance.below(workers + 1), chance.below(plan.lines + 2)
         else:
-            lines = [line for line in range(plan.lines) if not run.refusal(line)]
+            lines = [line for line in range(plan.lines) if not run.refusal(run.practice_worker(line), line)]
             if lean:
                 liked = [line for line in lines if run.running[line] == (lean == 1)]
                 if liked and not chance.one_in(4):
                     lines = liked
             line = chance.pick(lines)
-        choices.append(line)
-        run.choose(line)
+            worker = run.worker_of[line] if run.running[line] else chance.pick(run.idle())
+        choices.append((worker, line))
+        run.choose(worker, line)
     if strays and len(choices) < most:
-        # What comes after the end: 11, and 10 before it.
-        choices += [0, plan.lines - 1, plan.lines]
+        # What comes after the end: 11, and 10 and 26 before it.
+        choices += [(0, 0), (workers - 1, plan.lines - 1), (0, plan.lines), (workers, 0)]
     return choices
 
 
 def program_input(workers, choices):
-    return bytes([workers]) + bytes(choices)
+    return bytes([workers]) + bytes(number for choice in choices for number in choice)

@@ -8,7 +8,7 @@ from run import Run
 
 
 # An event's letter and its numbers, by how many there are.
-FORMS = {2: "%s %d", 5: "%s %d %d %d %d"}
+FORMS = {2: "%s %d", 3: "%s %d %d", 6: "%s %d %d %d %d %d"}
 
 
 def line_of(event):
@@ -22,7 +22,8 @@ def output(plan, stdin):
         run = Run(plan_file.read(plan), workers)
     except Refused as refused:
         return b"R %d\n" % refused.number
-    lines = [line_of(run.choose(line)) for line in stdin[1:]]
+    # Two bytes a choice, worker and line; a lone last byte is ignored.
+    lines = [line_of(run.choose(*choice)) for choice in zip(stdin[1::2], stdin[2::2])]
     lines.append("E" if run.ended else "O")
     lines.append("")
     return "\n".join(lines).encode("ascii")

@@ -1,4 +1,4 @@
-"""A run: opening, choices with their join counters, events and the end."""
+"""A run: opening, choices of a worker and a line with their join counters, events and the end."""
 
 from plan_file import Refused
 from tables import Tables
@@ -37,39 +37,60 @@ class Run:
                     value = self.full[pipe]
                 self.counters[line * PIPES_EACH + pipe] = value
 
-        # For each line: the pipe where it waits or runs, and what it carries.
+        # For each line: the pipe where it waits or runs, what it carries, and the worker that runs it.
         self.at = [0] * self.lines
         self.running = [False] * self.lines
         self.carries = [None] * self.lines
+        self.worker_of = [None] * self.lines
+        # For each worker: the line that it runs.
+        self.line_of = [None] * workers
         self.running_lines = 0
         self.stopped = False
         self.ended = False
 
-    def refusal(self, line):
-        """10 to 13 if a choice of this line would be refused now, else 0."""
+    def refusal(self, worker, line):
+        """10 to 13 or 26 if this worker's choice of this line would be refused now, else 0."""
         if line >= self.lines:
             return 10
+        if worker >= self.workers:
+            return 26
         if self.ended:
             return 11
         if self.running[line]:
-            return 0
+            return 0 if self.worker_of[line] == worker else 26
         if self.counters[line * PIPES_EACH + self.at[line]] > 0:
             return 12
-        if self.running_lines >= self.workers:
+        if self.line_of[worker] is not None:
             return 13
         return 0
 
-    def choose(self, line):
+    def idle(self):
+        """The workers that run no line."""
+        return [worker for worker in range(self.workers) if self.line_of[worker] is None]
+
+    def practice_worker(self, line):
+        """The worker that goes with a line where lines are listed alone.
+
+        The line's own, or the idle one with the smallest number; 0 if none is.
+        """
+        if line < self.lines and self.running[line]:
+            return self.worker_of[line]
+        for worker in range(self.workers):
+            if self.line_of[worker] is None:
+                return worker
+        return 0
+
+    def choose(self, worker, line):
         """One choice: its event, or (REFUSED, number) with nothing changed."""
-        number = self.refusal(line)
+        number = self.refusal(worker, line)
         if number:
             return (REFUSED, number)
-        event = self.finish(line) if self.running[line] else self.start(line)
+        event = self.finish(line) if self.running[line] else self.start(worker, line)
         if self.stopped:
             self.ended = self.has_ended()
         return event
 
-    def start(self, line):
+    def start(self, worker, line):
         pipe = self.at[line]
         # Filled at start, so that falls which come before the next start count.
         self.counters[line * PIPES_EACH + pipe] = self.full[pipe]
@@ -77,12 +98,14 @@ class Run:
             taken = self.tables.take()
             if taken is None:
                 self.stopped = True
-                return (STOPPED, line)
+                return (STOPPED, line, worker)
             self.carries[line] = taken
         self.running[line] = True
         self.running_lines += 1
+        self.worker_of[line] = worker
+        self.line_of[worker] = line
         token, place = self.carries[line]
-        return (STARTED, line, pipe, token, place)
+        return (STARTED, line, pipe, token, place, worker)
 
     def finish(self, line):
         pipe = self.at[line]
@@ -96,10 +119,13 @@ class Run:
         self.at[line] = next_pipe
         self.running[line] = False
         self.running_lines -= 1
+        worker = self.worker_of[line]
+        self.worker_of[line] = None
+        self.line_of[worker] = None
         # A line back at pipe 0 carries nothing any more.
         if next_pipe == 0:
             self.carries[line] = None
-        return (FINISHED, line, pipe, token, place)
+        return (FINISHED, line, pipe, token, place, worker)
 
     def fall(self, line, pipe):
         at = line * PIPES_EACH + pipe
@@ -122,6 +148,7 @@ class Run:
             tuple(self.at),
             tuple(self.running),
             tuple(self.carries),
+            tuple(self.worker_of),
             self.stopped,
             self.ended,
             self.tables.state(),

@@ -6,6 +6,7 @@ from chance import Chance
 from makers import (
     allowed_list,
     big_pipes,
+    by_practice,
     one_worker_list,
     program_input,
     random_list,
@@ -48,11 +49,17 @@ def stored(entries):
 
 
 def made_input(workers, many, seed, modulus):
+    """Of each choice the line is drawn, and its worker is the line's number mod W; one time in 16 it is one that W has not."""
     data = bytearray([workers])
     s = seed
     for _ in range(many):
         s = (1664525 * s + 1013904223) % 4294967296
-        data.append((s // 65536) % modulus)
+        line = (s // 65536) % modulus
+        if s < 268435456:
+            data.append((workers + line) % 256)
+        else:
+            data.append(line % workers if workers else 0)
+        data.append(line)
     return bytes(data)
 
 
@@ -116,13 +123,18 @@ def given_run(plan, workers, choices):
     return given(encode(plan), program_input(workers, choices))
 
 
+def given_lines(plan, workers, lines):
+    """A run where lines are listed alone: practice's workers go with them."""
+    return given_run(plan, workers, by_practice(plan, workers, lines))
+
+
 def cut_after_end(plan, workers, choices, more=3):
-    """The list without what comes long after the end, where all is 10 or 11."""
+    """The list without what comes long after the end, where all is 10, 11 or 26."""
     run = Run(plan, workers)
-    for i, line in enumerate(choices):
+    for i, choice in enumerate(choices):
         if run.ended:
             return choices[:i + more]
-        run.choose(line)
+        run.choose(*choice)
     return choices
 
 
@@ -138,14 +150,14 @@ def case_entries():
             entries.append(given_run(plan, 1, one_worker_list(plan)))
             ends_after = len(one_worker_list(plan))
             if name == "b":
-                choices = cut_after_end(plan, 3, round_robin_list(plan, 3 * ends_after))
+                choices = cut_after_end(plan, 3, round_robin_list(plan, 3, 3 * ends_after))
                 entries.append(given_run(plan, 3, choices))
             workers = chance.between(1, 3)
             entries.append(
                 given_run(plan, workers, allowed_list(chance, plan, workers, 150, strays=5))
             )
             workers = chance.between(1, 3)
-            choices = cut_after_end(plan, workers, random_list(chance, plan, 80, past=3))
+            choices = cut_after_end(plan, workers, random_list(chance, plan, workers, 80, past=3))
             entries.append(given_run(plan, workers, choices))
     return entries
 
@@ -155,20 +167,20 @@ def wrong_turn_entries():
     both = [0, 0, 0, 1, 1, 1, 1]
     for pipes in ([True, False], [True, True]):
         plan = Plan(pipes, 2, 2)
-        entries.append(given_run(plan, 2, both))
+        entries.append(given_lines(plan, 2, both))
         # On to the end.
-        entries.append(given_run(plan, 2, both + [0, 1, 1, 0, 0, 1, 1, 0]))
+        entries.append(given_lines(plan, 2, both + [0, 1, 1, 0, 0, 1, 1, 0]))
     # Placing by token number: case d's token 1 runs on line 0.
     plan = CASES["d"].plan(lines=2)
     entries.append(given_run(plan, 1, one_worker_list(plan)))
-    entries.append(given_run(plan, 2, [1, 0, 0, 0, 1, 1, 1, 0, 0]))
+    entries.append(given_lines(plan, 2, [1, 0, 0, 0, 1, 1, 1, 0, 0]))
     # A new token though one is ready: case i.
     plan = CASES["i"].plan(lines=3)
     entries.append(given_run(plan, 1, one_worker_list(plan)))
     # A counter filled after the falls: one line, with one pipe and with more.
     for pipes in ([True], [True, True], [True, False], [True, True, False]):
         plan = Plan(pipes, 1, 3)
-        entries.append(given_run(plan, 1, one_worker_list(plan) + [0, 1]))
+        entries.append(given_run(plan, 1, one_worker_list(plan) + [(0, 0), (0, 1)]))
     return entries
 
 
@@ -178,36 +190,52 @@ def refusal_entries():
     data = encode(plan)
     # 8.
     entries.append(given(data, b""))
+    some = [(0, 0), (0, 0), (0, 1)]
     for workers in (0, 33, 34, 255):
         entries.append(given_run(plan, workers, []))
-        entries.append(given_run(plan, workers, [0, 0, 1]))
+        entries.append(given_run(plan, workers, some))
     # W at its limits, with and without choices.
     for workers in (1, 32):
         entries.append(given_run(plan, workers, []))
-        entries.append(given_run(plan, workers, [0, 0, 1]))
+        entries.append(given_run(plan, workers, some))
     # 10 for each line past L, up to the highest byte.
-    entries.append(given_run(plan, 1, [0, 2, 3, 4, 16, 31, 32, 33, 127, 128, 254, 255, 0]))
+    entries.append(given_lines(plan, 1, [0, 2, 3, 4, 16, 31, 32, 33, 127, 128, 254, 255, 0]))
     wide = Plan([True], 32, 40)
-    entries.append(given_run(wide, 2, [31, 32, 33, 255, 0, 0, 1, 31]))
+    entries.append(given_lines(wide, 2, [31, 32, 33, 255, 0, 0, 1, 31]))
     # 11 after the end, 10 still before it; and not after a first stop alone.
-    entries.append(given_run(CASES["c"].plan(), 1, [0, 0, 1, 0, 255]))
-    entries.append(given_run(CASES["e"].plan(), 32, [0, 0, 1, 0, 255]))
+    entries.append(given_lines(CASES["c"].plan(), 1, [0, 0, 1, 0, 255]))
+    entries.append(given_lines(CASES["e"].plan(), 32, [0, 0, 1, 0, 255]))
     entries.append(
-        given_run(Plan([True, True], 2, 1), 2, [0, 0, 0, 1, 0, 1, 0, 1, 2, 0, 1])
+        given_lines(Plan([True, True], 2, 1), 2, [0, 0, 0, 1, 0, 1, 0, 1, 2, 0, 1])
     )
     entries.append(
-        given_run(Plan([True, False], 2, 1), 2, [0, 0, 1, 1, 0, 0, 1, 0, 1, 2])
+        given_lines(Plan([True, False], 2, 1), 2, [0, 0, 1, 1, 0, 0, 1, 0, 1, 2])
     )
     # 12 before 13: a waiting line with a counter above 0, all workers busy.
-    entries.append(given_run(Plan([True, False], 3, 4), 1, [0, 1, 2, 0, 1, 0, 1, 2, 1, 0]))
+    entries.append(given_lines(Plan([True, False], 3, 4), 1, [0, 1, 2, 0, 1, 0, 1, 2, 1, 0]))
     # 13 for a start at pipe 0, for a start elsewhere and for a stop.
-    entries.append(given_run(Plan([True, True], 2, 2), 1, [0, 0, 0, 1, 0, 1, 0, 1, 0, 1]))
-    entries.append(given_run(Plan([True, True], 2, 1), 1, [0, 0, 0, 1, 0, 1, 1, 0]))
+    entries.append(given_lines(Plan([True, True], 2, 2), 1, [0, 0, 0, 1, 0, 1, 0, 1, 0, 1]))
+    entries.append(given_lines(Plan([True, True], 2, 1), 1, [0, 0, 0, 1, 0, 1, 1, 0]))
     entries.append(
-        given_run(Plan([True, False], 3, 3), 2, [0, 0, 0, 1, 2, 1, 2, 1, 0, 2, 2, 2, 1, 0, 0, 0])
+        given_lines(Plan([True, False], 3, 3), 2, [0, 0, 0, 1, 2, 1, 2, 1, 0, 2, 2, 2, 1, 0, 0, 0])
     )
     # Nobody but line 0 may begin.
-    entries.append(given_run(Plan([True], 4, 4), 4, [3, 2, 1, 0, 3, 2, 1, 0]))
+    entries.append(given_lines(Plan([True], 4, 4), 4, [3, 2, 1, 0, 3, 2, 1, 0]))
+    # 26 for each worker past W, up to the highest byte, after 10 and before 11 and 12.
+    entries.append(given_run(plan, 2, [(w, 0) for w in (2, 3, 31, 32, 255)] + [(2, 3), (2, 1), (1, 0), (2, 0), (1, 0)]))
+    entries.append(given_run(CASES["c"].plan(), 1, [(1, 0), (0, 0), (1, 0), (0, 0), (1, 1), (0, 1)]))
+    # 26 for a finish by another worker, at pipe 0 and elsewhere; 12 and not 13 for a busy worker's start too early; 13 for a start and
+    # for a stop while the worker runs another line, though one is idle.
+    entries.append(
+        given_run(Plan([True, False], 3, 3), 3, [(1, 0), (0, 0), (2, 0), (1, 1), (1, 0), (2, 0), (1, 0), (2, 1), (2, 0), (0, 1), (0, 1),
+                  (0, 1), (0, 2), (1, 2), (1, 0), (2, 0), (1, 2), (1, 1), (0, 1), (0, 2), (0, 2), (0, 0), (1, 0)])
+    )
+    entries.append(
+        given_run(Plan([True, True], 2, 1), 2, [(1, 0), (1, 0), (1, 0), (1, 1), (0, 1), (0, 0), (1, 0), (0, 0), (0, 1)])
+    )
+    # A lone last byte is ignored, whatever it is.
+    for data in (b"\x02\0", b"\x02\1\0\0", b"\x02\0\0\xff", b"\x02\1\0\1\0\1\0\1"):
+        entries.append(given(encode(plan), data))
 
     # Refused plans, each number, with input that would be fine, absent, or 8.
     refused = [
@@ -225,10 +253,10 @@ def refusal_entries():
         encode(makers.plan_with_total(8193)),
     ]
     for plan_bytes in refused:
-        entries.append(given(plan_bytes, program_input(1, [0, 0, 0])))
+        entries.append(given(plan_bytes, program_input(1, [(0, 0)] * 3)))
         if len(plan_bytes) < 100:
             entries.append(given(plan_bytes, b""))
-            entries.append(given(plan_bytes, program_input(33, [0])))
+            entries.append(given(plan_bytes, program_input(33, [(0, 0)])))
     entries.append(made(b"", 1, 10, 1, 4))
     entries.append(made(data, 0, 10, 1, 4))
     entries.append(made(data, 1, 0, 1, 4))
@@ -248,7 +276,7 @@ def narrow_entries():
                 (3, []), (4, [(0, [2, 3]), (1, [3])]), (3, [(0, [1]), (1, [0])]), (3, [(1, [3])]),
             ):
                 plan = Plan(pipes, lines, tokens, records)
-                entries.append(given_run(plan, 1, one_worker_list(plan) + [0]))
+                entries.append(given_run(plan, 1, one_worker_list(plan) + [(0, 0)]))
                 workers = chance.between(1, 4)
                 choices = allowed_list(chance, plan, workers, 60, strays=4)
                 entries.append(given_run(plan, workers, choices))
@@ -273,7 +301,7 @@ def limit_entries():
         choices = allowed_list(chance, plan, workers, 260, strays=9)
         entries.append(given_run(plan, workers, choices))
     # The longest file of all: nobody ordered, one choice stops.
-    entries.append(given_run(makers.longest_plan(), 1, [0, 0, 32, 1]))
+    entries.append(given_lines(makers.longest_plan(), 1, [0, 0, 32, 1]))
     return entries
 
 
@@ -287,7 +315,7 @@ def random_entries():
         most = chance.between(60, 117)
         manner = number % 3
         if manner == 0:
-            choices = random_list(chance, plan, most, past=3)
+            choices = random_list(chance, plan, workers, most, past=3)
         else:
             choices = allowed_list(chance, plan, workers, most, strays=2 if manner == 1 else 8)
         entries.append(given_run(plan, workers, cut_after_end(plan, workers, choices)))
@@ -330,35 +358,35 @@ def long_plans():
 # Name, W, number of choices, seed, modulus. The numbers are such that most of
 # these runs end; a modulus above L brings some choices of lines past it.
 LONG_RUNS = [
-    ("plain", 1, 2400000, 11, 32),
-    ("plain", 7, 400000, 12, 32),
-    ("plain", 32, 350000, 13, 32),
+    ("plain", 1, 2480000, 11, 32),
+    ("plain", 7, 620000, 12, 32),
+    ("plain", 32, 365000, 13, 32),
     ("third", 1, 300000, 21, 32),  # does not end
-    ("third", 7, 400000, 22, 32),
-    ("third", 32, 360000, 23, 34),
+    ("third", 7, 612000, 22, 32),
+    ("third", 32, 372000, 23, 34),
     ("every", 1, 200000, 31, 32),  # does not end
-    ("every", 7, 400000, 32, 32),
-    ("every", 32, 350000, 33, 32),
-    ("sixteen", 7, 400000, 41, 32),
-    ("sixteen", 32, 340000, 42, 32),
-    ("both", 7, 360000, 51, 32),
-    ("both", 32, 270000, 52, 32),
-    ("cycles", 7, 360000, 61, 32),
-    ("cycles", 32, 310000, 62, 32),
-    ("never", 7, 400000, 71, 32),
-    ("never", 32, 345000, 72, 32),
-    ("one line", 1, 131080, 81, 1),
-    ("one line", 32, 131072, 82, 1),  # one choice short of the end
-    ("one line", 7, 263000, 83, 2),
-    ("one pipe", 7, 265000, 91, 32),
-    ("one of each", 1, 8200, 101, 1),
-    ("one of each", 32, 17000, 102, 2),
-    ("two lines", 1, 201000, 111, 2),
-    ("two lines", 32, 205000, 112, 3),
-    ("few", 1, 90000, 121, 5),
-    ("few", 7, 60000, 122, 6),
-    ("few", 32, 51000, 123, 5),
-    ("total", 1, 40000, 131, 3),
+    ("every", 7, 628000, 32, 32),
+    ("every", 32, 365000, 33, 32),
+    ("sixteen", 7, 610000, 41, 32),
+    ("sixteen", 32, 352000, 42, 32),
+    ("both", 7, 540000, 51, 32),
+    ("both", 32, 282000, 52, 32),
+    ("cycles", 7, 563000, 61, 32),
+    ("cycles", 32, 323000, 62, 32),
+    ("never", 7, 613000, 71, 32),
+    ("never", 32, 360000, 72, 32),
+    ("one line", 1, 139900, 81, 1),
+    ("one line", 32, 139717, 82, 1),  # one choice short of the end
+    ("one line", 7, 280000, 83, 2),
+    ("one pipe", 7, 275000, 91, 32),
+    ("one of each", 1, 8770, 101, 1),
+    ("one of each", 32, 17700, 102, 2),
+    ("two lines", 1, 215000, 111, 2),
+    ("two lines", 32, 218000, 112, 3),
+    ("few", 1, 94000, 121, 5),
+    ("few", 7, 63000, 122, 6),
+    ("few", 32, 52000, 123, 5),
+    ("total", 1, 42000, 131, 3),
     ("total", 32, 300000, 132, 256),  # mostly refused with 10
 ]
 

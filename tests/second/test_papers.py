@@ -11,7 +11,7 @@ import makers
 import plan_file
 from cases import CASE_A_FILE, CASE_A_INPUT, CASE_A_OUTPUT, CASES
 from chance import Chance
-from makers import one_worker_list, program_input, raw_file, raw_record
+from makers import by_practice, one_worker_list, program_input, raw_file, raw_record
 from plan_file import Plan, Refused, encode
 from program import output
 from run import FINISHED, REFUSED, STARTED, STOPPED, Run
@@ -30,7 +30,7 @@ def answer(data):
 
 def events(plan, workers, choices):
     run = Run(plan, workers)
-    return run, [run.choose(line) for line in choices]
+    return run, [run.choose(*choice) for choice in choices]
 
 
 def order_of(happened):
@@ -67,8 +67,8 @@ class PlansWithKnownOrders(unittest.TestCase):
     def test_one_choice(self):
         for name in "ce":
             plan = CASES[name].plan()
-            run, happened = events(plan, 1, [0])
-            self.assertEqual(happened, [(STOPPED, 0)])
+            run, happened = events(plan, 1, [(0, 0)])
+            self.assertEqual(happened, [(STOPPED, 0, 0)])
             self.assertTrue(run.ended)
             self.assertEqual(len(one_worker_list(plan)), 1)
 
@@ -148,23 +148,26 @@ class PlanFile(unittest.TestCase):
 
 
 class WrongTurns(unittest.TestCase):
-    CHOICES = [0, 0, 0, 1, 1, 1, 1]
+    # Lines alone: practice's workers go with them.
+    LINES = [0, 0, 0, 1, 1, 1, 1]
 
     def test_parallel_pipe_is_not_ordered(self):
-        run, happened = events(Plan([True, False], 2, 2), 2, self.CHOICES)
-        self.assertEqual(happened[-1], (FINISHED, 1, 1, 1, 1))
+        plan = Plan([True, False], 2, 2)
+        run, happened = events(plan, 2, by_practice(plan, 2, self.LINES))
+        self.assertEqual(happened[-1], (FINISHED, 1, 1, 1, 1, 1))
         self.assertTrue(run.running[0])
-        self.assertNotIn((FINISHED, 0, 1, 0, 0), happened)
+        self.assertNotIn((FINISHED, 0, 1, 0, 0, 0), happened)
 
     def test_both_serial(self):
-        _, happened = events(Plan([True, True], 2, 2), 2, self.CHOICES)
+        plan = Plan([True, True], 2, 2)
+        _, happened = events(plan, 2, by_practice(plan, 2, self.LINES))
         self.assertEqual([e for e in happened if e[0] == REFUSED][0], (REFUSED, 12))
         self.assertEqual(happened[5], (REFUSED, 12))
 
     def test_placing_goes_by_place(self):
         plan = CASES["d"].plan(lines=2)
-        _, happened = events(plan, 1, [0])
-        self.assertEqual(happened, [(STARTED, 0, 0, 1, 0)])
+        _, happened = events(plan, 1, [(0, 0)])
+        self.assertEqual(happened, [(STARTED, 0, 0, 1, 0, 0)])
 
     def test_ready_before_new(self):
         self.assertEqual(plain_sheet(CASES["i"].plan()).order, [2, 1, 3, 0])
@@ -172,7 +175,7 @@ class WrongTurns(unittest.TestCase):
     def test_one_line_keeps_its_own_fall(self):
         for pipes in ([True], [True, True], [True, False]):
             plan = Plan(pipes, 1, 3)
-            run, happened = events(plan, 1, [0] * (2 * 3 * len(pipes) + 1))
+            run, happened = events(plan, 1, [(0, 0)] * (2 * 3 * len(pipes) + 1))
             self.assertTrue(run.ended)
             self.assertNotIn(REFUSED, [event[0] for event in happened])
 
@@ -186,32 +189,38 @@ class Refusals(unittest.TestCase):
         self.assertEqual(output(b"", b"\x21\0"), b"R 1\n")
 
     def test_numbers(self):
-        run = Run(Plan([True, True], 2, 1), 1)
-        for line, expected in (
-            (2, (REFUSED, 10)),
-            (1, (REFUSED, 12)),
-            (0, (STARTED, 0, 0, 0, 0)),
-            (1, (REFUSED, 12)),
-            (0, (FINISHED, 0, 0, 0, 0)),
-            (0, (STARTED, 0, 1, 0, 0)),
-            (1, (REFUSED, 13)),  # it would stop
-            (0, (FINISHED, 0, 1, 0, 0)),
-            (0, (REFUSED, 12)),
-            (1, (STOPPED, 1)),
-            (1, (REFUSED, 11)),
-            (0, (REFUSED, 11)),
-            (2, (REFUSED, 10)),
+        run = Run(Plan([True, True], 2, 1), 2)
+        for worker, line, expected in (
+            (0, 2, (REFUSED, 10)),
+            (2, 2, (REFUSED, 10)),
+            (2, 1, (REFUSED, 26)),
+            (0, 1, (REFUSED, 12)),
+            (1, 0, (STARTED, 0, 0, 0, 0, 1)),
+            (1, 1, (REFUSED, 12)),  # and not 13
+            (0, 0, (REFUSED, 26)),
+            (2, 0, (REFUSED, 26)),
+            (1, 0, (FINISHED, 0, 0, 0, 0, 1)),
+            (0, 0, (STARTED, 0, 1, 0, 0, 0)),
+            (0, 1, (REFUSED, 13)),  # it would stop
+            (1, 0, (REFUSED, 26)),
+            (0, 0, (FINISHED, 0, 1, 0, 0, 0)),
+            (0, 0, (REFUSED, 12)),
+            (1, 1, (STOPPED, 1, 1)),
+            (1, 1, (REFUSED, 11)),
+            (0, 0, (REFUSED, 11)),
+            (2, 0, (REFUSED, 26)),
+            (2, 2, (REFUSED, 10)),
         ):
             before = run.state()
-            self.assertEqual(run.choose(line), expected)
+            self.assertEqual(run.choose(worker, line), expected)
             if expected[0] == REFUSED:
                 self.assertEqual(run.state(), before)
 
     def test_a_first_stop_is_not_the_end(self):
-        run, happened = events(Plan([True, True], 2, 1), 2, [0, 0, 1])
-        self.assertEqual(happened[-1], (STOPPED, 1))
+        run, happened = events(Plan([True, True], 2, 1), 2, [(0, 0), (0, 0), (1, 1)])
+        self.assertEqual(happened[-1], (STOPPED, 1, 1))
         self.assertFalse(run.ended)
-        self.assertEqual([run.choose(0)[0] for _ in range(2)], [STARTED, FINISHED])
+        self.assertEqual([run.choose(0, 0)[0] for _ in range(2)], [STARTED, FINISHED])
         self.assertTrue(run.ended)
 
     def test_opening_counters(self):
@@ -242,23 +251,35 @@ class WholeRuns(unittest.TestCase):
         accepted = 0
         started, finished = {}, {}
         happened = []
-        for now, line in enumerate(choices):
+        for now, (worker, line) in enumerate(choices):
             self.assertEqual(run.ended, accepted == 2 * m * p + 1)
-            allowed = [name for name in range(plan.lines) if run.refusal(name) == 0]
+            allowed = [
+                (by, name)
+                for by in range(workers) for name in range(plan.lines) if run.refusal(by, name) == 0
+            ]
             self.assertEqual(bool(allowed), not run.ended)
+            # The lines of the allowed choices are those that practice's workers may choose.
+            self.assertEqual(
+                sorted({name for _, name in allowed}),
+                [name for name in range(plan.lines) if run.refusal(run.practice_worker(name), name) == 0],
+            )
             before = run.state()
-            event = run.choose(line)
+            event = run.choose(worker, line)
             happened.append(event)
             if event[0] == REFUSED:
                 self.assertEqual(run.state(), before)
-                self.assertEqual(event[1] == 11, run.ended and line < plan.lines)
+                self.assertEqual(event[1] == 11, run.ended and line < plan.lines and worker < workers)
                 continue
             accepted += 1
-            self.assertLessEqual(run.running_lines, workers)
+            self.assertEqual(event[-1], worker)
             self.assertEqual(run.running_lines, sum(run.running))
+            # No worker runs two lines.
+            at_work = [by for by in run.worker_of if by is not None]
+            self.assertEqual(len(at_work), run.running_lines)
+            self.assertEqual(len(set(at_work)), len(at_work))
             if event[0] == STOPPED:
                 continue
-            kind, on_line, pipe, token, place = event
+            kind, on_line, pipe, token, place, _ = event
             self.assertEqual(on_line, line)
             self.assertEqual((place, line), (sheet.place[token], sheet.line[token]))
             times = started if kind == STARTED else finished
@@ -296,14 +317,15 @@ class WholeRuns(unittest.TestCase):
             choices = one_worker_list(plan)
             run, happened = events(plan, 1, choices)
             self.assertNotIn(REFUSED, [event[0] for event in happened])
-            self.assertEqual(happened[-1], (STOPPED, choices[-1]))
+            self.assertEqual(happened[-1], (STOPPED, choices[-1][1], 0))
+            self.assertEqual(choices, by_practice(plan, 1, [line for _, line in choices]))
             self.assertNotIn(STOPPED, [event[0] for event in happened[:-1]])
             self.assertTrue(run.ended)
             ends.append(self.check_run(plan, 1, choices))
             for workers in (chance.between(1, 3), 32):
                 choices = makers.allowed_list(chance, plan, workers, 400, strays=4)
                 ends.append(self.check_run(plan, workers, choices))
-                choices = makers.random_list(chance, plan, 60, past=2)
+                choices = makers.random_list(chance, plan, workers, 60, past=2)
                 ends.append(self.check_run(plan, workers, choices))
             # All ends are one, whatever W.
             states = [run.state() for run in ends if run.ended]
@@ -340,7 +362,7 @@ class WholeRuns(unittest.TestCase):
 
 class Checksum(unittest.TestCase):
     def test_byte_by_byte(self):
-        data = output(encode(CASES["b"].plan(lines=3)), program_input(2, [0, 0, 1, 9, 2, 1] * 9))
+        data = output(encode(CASES["b"].plan(lines=3)), program_input(2, [(0, 0), (0, 0), (1, 1), (1, 9), (2, 1), (0, 1)] * 9))
         for text in (data, b"", b"E\n", b"no newline"):
             h = 1
             for byte in text:
@@ -352,10 +374,13 @@ class TheProgram(unittest.TestCase):
     def test_lines(self):
         data = encode(Plan([True, False], 2, 1))
         self.assertEqual(
-            output(data, program_input(1, [0, 0, 5, 0, 1, 0, 1, 1])),
-            b"S 0 0 0 0\nF 0 0 0 0\nR 10\nS 0 1 0 0\nR 13\nF 0 1 0 0\nX 1\nR 11\nE\n",
+            output(data, program_input(1, [(0, line) for line in (0, 0, 5, 0, 1, 0, 1, 1)])),
+            b"S 0 0 0 0 0\nF 0 0 0 0 0\nR 10\nS 0 1 0 0 0\nR 13\nF 0 1 0 0 0\nX 1 0\nR 11\nE\n",
         )
         self.assertEqual(output(data, b"\x01"), b"O\n")
+        # A lone last byte is ignored.
+        self.assertEqual(output(data, b"\x02\x01"), b"O\n")
+        self.assertEqual(output(data, b"\x02\x01\x00\x01"), b"S 0 0 0 0 1\nO\n")
         self.assertEqual(output(b"", b""), b"R 1\n")
 
 

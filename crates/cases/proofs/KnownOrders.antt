@@ -7,9 +7,9 @@ use Rattle.rules.specs.Lists.{must, within, every, keep, has, empty, table, Eve
 use Rattle.rules.specs.TakingTokens.{isDue, takeNew, takeFrom, release, Tables}
 use Rattle.rules.specs.TakingTokens as tables
 use Rattle.rules.specs.RunState.{Machine, slotAt, putSlot, allIdle}
-use Rattle.rules.specs.Ranges.{sound, numbersSound, isIdle, isLoaded, slotSound, mostAt, counterSound, serialSound}
-use Rattle.rules.specs.Choices.{opened, openedCounter, tabled, answers, choose, move, start, startFirst, startLater}
-use Rattle.rules.specs.Choices.{finish, finishFirst, finishWith, settle, fall, ended, movable, runningBelow}
+use Rattle.rules.specs.Ranges.{sound, numbersSound, isIdle, isLoaded, workerSound, slotSound, mostAt, counterSound, serialSound}
+use Rattle.rules.specs.Choices.{Choice, opened, openedCounter, tabled, answers, choose, move, start, startFirst, startLater}
+use Rattle.rules.specs.Choices.{finish, finishFirst, finishWith, settle, fall, ended, movable, atWork}
 use Rattle.rules.specs.PlainSheet.{numbersOf, written, leaves, sheet, closed, staying, rows, onLine, plainSource}
 use Rattle.rules.specs.WholeRuns.{oneWorker}
 use Rattle.cases.specs.KnownOrders.{Case, Outcome, cases, pipelineOf, outcome, told, endedAfter}
@@ -20,7 +20,7 @@ use Rattle.cases.proofs.QuickRuns.{walked, countersWalked, quickSound, 
 quickOutcome : Case → Outcome
 quickOutcome c =
     let order : List ℕ = sheet (c .tokens) (numbersOf (c .records)) in
-    let choices : List ℕ = oneWorker (pipelineOf c) 0 (length order) in
+    let choices : List Choice = oneWorker (pipelineOf c) 0 (length order) in
     let end : Machine Tables = quickFollow (plainSource (c .tokens) (numbersOf (c .records))) (opened (pipelineOf c) 1 tables.opened) choices in
     record {
       order = order;
@@ -34,7 +34,7 @@ outcome-is : (c : Case) → outcome c ≡ quickOutcome c
 unfolding outcome quickOutcome endedAfter
 outcome-is c =
     let order : List ℕ = sheet (c .tokens) (numbersOf (c .records)) in
-    let choices : List ℕ = oneWorker (pipelineOf c) 0 (length order) in
+    let choices : List Choice = oneWorker (pipelineOf c) 0 (length order) in
     ap (λ (m : Machine Tables). record {
       order = order;
       stays = staying (c .tokens) (numbersOf (c .records));
@@ -46,7 +46,7 @@ outcome-is c =
 quick-hold : Every (λ c. quickOutcome c ≡ c .known) cases
 unfolding quickOutcome told numbersOf sheet closed staying rows onLine written leaves tables.take takeFrom takeNew release isDue keep has empty
     oneWorker opened openedCounter tabled table answers choose move start startFirst startLater finish finishFirst finishWith settle
-    fall ended movable runningBelow sound numbersSound within isIdle isLoaded slotSound mostAt counterSound serialSound every slotAt putSlot allIdle
+    fall ended movable atWork sound numbersSound within isIdle isLoaded workerSound slotSound mostAt counterSound serialSound every slotAt putSlot allIdle
     walked countersWalked quickSound quickChoose quickFollow
 quick-hold = every-agree quickOutcome (λ c. c .known) cases refl
 

@@ -1,6 +1,6 @@
 -- A run followed as by the rules, but for one test: the counters' ranges are tested in one walk over their list, and not by a look-up
 -- from its start for each of the 512. So the runs of the cases are computed in a fraction of the time.
-use mathlib.Core.Path.{_≡_, refl, sym, ap, _∙_}
+use mathlib.Core.Path.{_≡_, refl, ap, _∙_}
 use mathlib.Core.Bool.{Bool, true, false}
 use mathlib.Core.List.{List, [], _∷_}
 use Prim.Native.Nat.{ℕ, zero, suc, _+_, _/_, _%_}
@@ -11,7 +11,7 @@ use Rattle.rules.specs.Lists.{if, must, mustNot, all, every}
 use Rattle.rules.specs.Sources.{Source}
 use Rattle.rules.specs.RunState.{Machine}
 use Rattle.rules.specs.Ranges.{numbersSound, serialSound, slotSound, mostAt, counterSound, sound}
-use Rattle.rules.specs.Choices.{Chosen, refuse, ended, move, choose, follow}
+use Rattle.rules.specs.Choices.{Choice, Chosen, refuse, ended, move, choose, chooseBy, follow}
 use Rattle.rules.proofs.lists.Tests.{by-test}
 
 -- a test of so many numbers of a list, each with its place, from place i on; past the list's end they are 0
@@ -59,7 +59,7 @@ module _ {X : Type 0} (S : Source X) where
       all (
       numbersSound m ∷
       every 16 (serialSound (m .pipes) (m .serial)) ∷
-      every 32 (slotSound (m .pipes) (m .lines) (m .tokens) (m .slots)) ∷
+      every 32 (slotSound (m .pipes) (m .lines) (m .tokens) (m .workers) (m .slots)) ∷
       countersWalked m ∷
       S .sound (m .source) ∷ [])
 
@@ -68,30 +68,32 @@ module _ {X : Type 0} (S : Source X) where
   quick-sound m = ap (λ (b : Bool). all (
       numbersSound m ∷
       every 16 (serialSound (m .pipes) (m .serial)) ∷
-      every 32 (slotSound (m .pipes) (m .lines) (m .tokens) (m .slots)) ∷
+      every 32 (slotSound (m .pipes) (m .lines) (m .tokens) (m .workers) (m .slots)) ∷
       b ∷
       S .sound (m .source) ∷ [])) (counters-walked m)
 
-  unfoldable pub quickChoose : Machine X → ℕ → Chosen X
-  quickChoose m l =
+  unfoldable pub quickChoose : Machine X → Choice → Chosen X
+  quickChoose m c =
       must (quickSound m) (refuse m 14)
-      (must (ltb l (m .lines)) (refuse m 10)
+      (must (ltb (c .line) (m .lines)) (refuse m 10)
+      (must (ltb (c .worker) (m .workers)) (refuse m 26)
       (mustNot (ended m) (refuse m 11)
-      (move S m l)))
+      (move S m (c .worker) (c .line)))))
 
-  quick-choose : (m : Machine X) (l : ℕ) → choose S m l ≡ quickChoose m l
+  quick-choose : (m : Machine X) (c : Choice) → chooseBy S m c ≡ quickChoose m c
   unfolding choose quickChoose
-  quick-choose m l = ap (λ (b : Bool). must b (refuse m 14)
-      (must (ltb l (m .lines)) (refuse m 10)
+  quick-choose m c = ap (λ (b : Bool). must b (refuse m 14)
+      (must (ltb (c .line) (m .lines)) (refuse m 10)
+      (must (ltb (c .worker) (m .workers)) (refuse m 26)
       (mustNot (ended m) (refuse m 11)
-      (move S m l)))) (quick-sound m)
+      (move S m (c .worker) (c .line)))))) (quick-sound m)
 
-  unfoldable pub quickFollow : Machine X → List ℕ → Machine X
+  unfoldable pub quickFollow : Machine X → List Choice → Machine X
   quickFollow m [] = m
-  quickFollow m (l ∷ ls) = quickFollow (quickChoose m l .machine) ls
+  quickFollow m (c ∷ cs) = quickFollow (quickChoose m c .machine) cs
 
-  pub quick-follow : (m : Machine X) (ls : List ℕ) → follow S m ls ≡ quickFollow m ls
+  pub quick-follow : (m : Machine X) (cs : List Choice) → follow S m cs ≡ quickFollow m cs
   unfolding follow quickFollow
   quick-follow m [] = refl
-  quick-follow m (l ∷ ls) =
-      ap (λ (c : Chosen X). follow S (c .machine) ls) (quick-choose m l) ∙ quick-follow (quickChoose m l .machine) ls
+  quick-follow m (c ∷ cs) =
+      ap (λ (d : Chosen X). follow S (d .machine) cs) (quick-choose m c) ∙ quick-follow (quickChoose m c .machine) cs

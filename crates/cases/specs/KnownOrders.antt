@@ -7,7 +7,7 @@ use Rattle.rules.specs.Lists.{must}
 use Rattle.rules.specs.TakingTokens.{Tables}
 use Rattle.rules.specs.TakingTokens as tables
 use Rattle.rules.specs.RunState.{Pipeline, Machine}
-use Rattle.rules.specs.Choices.{Answer, Started, Finished, Stopped, answers, follow, opened, ended}
+use Rattle.rules.specs.Choices.{Choice, Answer, Started, Finished, Stopped, answers, follow, opened, ended}
 use Rattle.rules.specs.PlainSheet.{Deferral, numbersOf, sheet, staying, plainSource, rows, onLine}
 use Rattle.rules.specs.WholeRuns.{oneWorker}
 
@@ -31,12 +31,12 @@ pub record Case : Type 0 where
 abbrev pub pipelineOf : Case → Pipeline
 pipelineOf c = record { pipes = c .pipes; lines = c .lines; tokens = c .tokens; serial = replicate (c .pipes) true }
 
--- the one-worker run of a case, whose sheet is this order
+-- the one-worker run of a case, whose sheet is this order: worker 0 makes all its choices
 module _ (c : Case) (order : List ℕ) where
   abbrev begun : Machine Tables
   begun = opened (pipelineOf c) 1 tables.opened
 
-  abbrev choicesOf : List ℕ
+  abbrev choicesOf : List Choice
   choicesOf = oneWorker (pipelineOf c) 0 (length order)
 
   -- its answers
@@ -82,7 +82,7 @@ case-a = record {
     stays = [];
     line0 = 0 ∷ [];
     choices = 3;
-    events = Started 0 0 0 0 ∷ Finished 0 0 0 0 ∷ Stopped 0 ∷ [];
+    events = Started 0 0 0 0 0 ∷ Finished 0 0 0 0 0 ∷ Stopped 0 0 ∷ [];
   };
 }
 

@@ -7,7 +7,7 @@ use lib.ListN.{length}
 use Rattle.rules.specs.Lists.{Every, within}
 use Rattle.rules.specs.RunState.{Machine}
 use Rattle.rules.specs.Choices as rules
-use Rattle.rules.specs.Choices.{Refused, choose, answers, follow, ended, opened}
+use Rattle.rules.specs.Choices.{Choice, Refused, choose, chooseBy, answers, follow, ended, opened}
 use Rattle.rules.specs.Ranges.{sound, numbersSound}
 use Rattle.rules.specs.WholeRuns.{WorkersInRange}
 use Rattle.rules.specs.Answers.{answerOf}
@@ -36,8 +36,8 @@ use Rattle.state.proofs.in_range.SoundLaws.{ended-is as ended-as-rules}
 use Rattle.demands.proofs.Unchanged.{refused-unchanged}
 
 -- the calls' answers and the machine that they leave are those of the rules' lists of choices
-calls-told : {s t : State} {m end ls : List ℕ} {told : List Answer} → Calls s m ls told t end →
-    (map answerOf told ≡ answers memorySource (machineOf s m) ls) × (machineOf t end ≡ follow memorySource (machineOf s m) ls)
+calls-told : {s t : State} {m end : List ℕ} {cs : List Choice} {told : List Answer} → Calls s m cs told t end →
+    (map answerOf told ≡ answers memorySource (machineOf s m) cs) × (machineOf t end ≡ follow memorySource (machineOf s m) cs)
 unfolding answers follow chosenOf
 calls-told no-call = (refl, refl)
 calls-told (call {a = a} e rest) =
@@ -45,28 +45,29 @@ calls-told (call {a = a} e rest) =
     rw (← ap (λ c. c .answer) e, ← ap (λ c. c .machine) e) (ap (λ (l : List rules.Answer). answerOf a ∷ l) told-is, left-is)
 
 -- where no answer is 14, neither is that of the last choice
-last-unspoiled : (a : Machine tables.State) (ls : List ℕ) (l : ℕ) →
-    Every (λ x. x ≡ Refused 14 → ⊥) (answers memorySource a (ls ++ (l ∷ []))) → choose memorySource (follow memorySource a ls) l .answer ≡ Refused 14 → ⊥
+last-unspoiled : (a : Machine tables.State) (cs : List Choice) (c : Choice) →
+    Every (λ x. x ≡ Refused 14 → ⊥) (answers memorySource a (cs ++ (c ∷ []))) → chooseBy memorySource (follow memorySource a cs) c .answer ≡ Refused 14 → ⊥
 unfolding answers follow
-last-unspoiled a [] l each = each .0
-last-unspoiled a (k ∷ ls) l each = last-unspoiled (choose memorySource a k .machine) ls l (each .1)
+last-unspoiled a [] c each = each .0
+last-unspoiled a (d ∷ cs) c each = last-unspoiled (chooseBy memorySource a d .machine) cs c (each .1)
 
-module _ {p : Plan} (demands : Demands p) (m : List ℕ) (enough : 32768 ≤ length m) {workers : ℕ} (manned : WorkersInRange workers) (ls : List ℕ) where
+module _ {p : Plan} (demands : Demands p) (m : List ℕ) (enough : 32768 ≤ length m) {workers : ℕ} (manned : WorkersInRange workers) (cs : List Choice) where
   -- the numbers that a run leaves are in range: no choice after it gets 14
-  left-sound : sound memorySource (left p m workers ls) ≡ true
+  left-sound : sound memorySource (left p m workers cs) ≡ true
   unfolding choose
-  left-sound = by-test (sound memorySource (left p m workers ls))
+  left-sound = by-test (sound memorySource (left p m workers cs))
       (λ yes. yes)
-      (λ no. absurd (last-unspoiled _ ls 0 (demands .runs m enough workers manned (ls ++ (0 ∷ [])) .never-spoiled) (rw no)))
+      (λ no. let c : Choice = record { worker = 0; line = 0 } in
+      absurd (last-unspoiled _ cs c (demands .runs m enough workers manned (cs ++ (c ∷ [])) .never-spoiled) (rw no)))
 
 -- a session is one of this plan's runs
-record RunOf (p : Plan) {file : List ℕ} {workers : ℕ} {m ls : List ℕ} (s : Session file workers m ls) : Type 0 where
-  events-are : eventsOf s ≡ told p m workers ls
-  left-is : machineOf (s .state) (s .memory) ≡ left p m workers ls
-  ended-is : endedOf (s .state) ≡ ended (left p m workers ls)
+record RunOf (p : Plan) {file : List ℕ} {workers : ℕ} {m : List ℕ} {cs : List Choice} (s : Session file workers m cs) : Type 0 where
+  events-are : eventsOf s ≡ told p m workers cs
+  left-is : machineOf (s .state) (s .memory) ≡ left p m workers cs
+  ended-is : endedOf (s .state) ≡ ended (left p m workers cs)
 
 module _ {file : List ℕ} (bytes : Bytes file) where
-  module _ {workers : ℕ} {m ls : List ℕ} (s : Session file workers m ls) where
+  module _ {workers : ℕ} {m : List ℕ} {cs : List Choice} (s : Session file workers m cs) where
     -- its opening
     here : OpenedRun file workers m
     here = opened-run file bytes workers m (ap (λ o. o .answer) (sym (s .opens .0)) ∙ s .accepts)
@@ -80,10 +81,10 @@ module _ {file : List ℕ} (bytes : Bytes file) where
     run-here : RunOf (here .plan) s
     run-here =
         let (told-is, left-is) = calls-told (s .calls) in
-        let end = left-is ∙ ap (λ a. follow memorySource a ls) begins in
-        let in-range = ap (sound memorySource) end ∙ left-sound (here .demands) m (here .enough) (here .manned) ls in
+        let end = left-is ∙ ap (λ a. follow memorySource a cs) begins in
+        let in-range = ap (sound memorySource) end ∙ left-sound (here .demands) m (here .enough) (here .manned) cs in
         record {
-          events-are = told-is ∙ ap (λ a. answers memorySource a ls) begins;
+          events-are = told-is ∙ ap (λ a. answers memorySource a cs) begins;
           left-is = end;
           ended-is = ended-as-rules (s .state) (s .memory) in-range ∙ ap ended end;
         }
@@ -93,7 +94,7 @@ module _ {file : List ℕ} (bytes : Bytes file) where
     run-of p valid file-is = subst (λ q. RunOf q s) (one-plan (here .plan) p (here .valid) valid (sym (here .file-is) ∙ file-is)) run-here
 
   -- the end states of two sessions
-  module _ {w v : ℕ} {m k ls ks : List ℕ} (s : Session file w m ls) (t : Session file v k ks) where
+  module _ {w v : ℕ} {m k : List ℕ} {cs ds : List Choice} (s : Session file w m cs) (t : Session file v k ds) where
     one-end : endedOf (s .state) ≡ true → endedOf (t .state) ≡ true → SameEnd (s .state) (s .memory) (t .state) (t .memory)
     unfolding machineOf
     one-end e f =
@@ -102,13 +103,13 @@ module _ {file : List ℕ} (bytes : Bytes file) where
         let q = run-of t (a .plan) (a .valid) (a .file-is) in
         let same : endState (machineOf (s .state) (s .memory)) ≡ endState (machineOf (t .state) (t .memory)) =
         ap endState (r .left-is)
-        ∙ a .demands .same-end m k w v (a .manned) (here t .manned) ls ks (sym (r .ended-is) ∙ e) (sym (q .ended-is) ∙ f)
+        ∙ a .demands .same-end m k w v (a .manned) (here t .manned) cs ds (sym (r .ended-is) ∙ e) (sym (q .ended-is) ∙ f)
         ∙ ap endState (sym (q .left-is)) in
         record { states = ap stateOf same; memories = ap (λ a. a .source .1) same }
 
   -- every session is as the demands say
-  pub code-demands : {workers : ℕ} {m ls : List ℕ} (s : Session file workers m ls) → CodeDemands s
-  code-demands {workers} {m} {ls} s =
+  pub code-demands : {workers : ℕ} {m : List ℕ} {cs : List Choice} (s : Session file workers m cs) → CodeDemands s
+  code-demands {workers} {m} {cs} s =
       let a = here s in
       let r = run-here s in
       record {
@@ -119,7 +120,7 @@ module _ {file : List ℕ} (bytes : Bytes file) where
         enough = a .enough;
         told-is = r .events-are;
         left-is = r .left-is;
-        shows = rw (r .events-are, r .left-is, r .ended-is) (a .demands .runs m (a .enough) workers (a .manned) ls);
+        shows = rw (r .events-are, r .left-is, r .ended-is) (a .demands .runs m (a .enough) workers (a .manned) cs);
         same-end = λ t. one-end s t;
         one-worker = λ {m} t. rw (run-of t (a .plan) (a .valid) (a .file-is) .events-are) (a .demands .one-worker m);
         one-worker-stops = λ {m} t last. rw (run-of t (a .plan) (a .valid) (a .file-is) .events-are) (a .demands .one-worker-stops m last);
@@ -127,9 +128,9 @@ module _ {file : List ℕ} (bytes : Bytes file) where
       }
 
 -- a choice on a state of zeros is refused with 14
-zeros-refused : (why : Refusal) (m : List ℕ) (l : ℕ) → choose memorySource (machineOf (refusedWith why .state) m) l .answer ≡ Refused 14
+zeros-refused : (why : Refusal) (m : List ℕ) (w l : ℕ) → choose memorySource (machineOf (refusedWith why .state) m) w l .answer ≡ Refused 14
 unfolding choose sound numbersSound within machineOf refusedWith
-zeros-refused why m l = refl
+zeros-refused why m w l = refl
 
 -- a refused opening writes nothing, and a choice on what it returns gets 14
 pub refused-opening : (file : List ℕ) (workers : ℕ) (m : List ℕ) (o : Opened) (m′ : List ℕ) (why : Refusal) →
@@ -141,9 +142,9 @@ refused-opening file workers m o m′ why (o-is, m-is) e =
     record {
       zeros = all-zeros;
       kept = m-is ∙ kept;
-      spoiled = λ mem l r mem′ called.
+      spoiled = λ mem w l r mem′ called.
           let spoiled : answerOf (r .answer) ≡ Refused 14 =
           ap (λ c. c .answer) called
-          ∙ subst (λ x. choose memorySource (machineOf (x .state) mem) l .answer ≡ Refused 14) (sym all-zeros) (zeros-refused why mem l) in
-          let (same, same-memory) = refused-unchanged (o .state) mem l r mem′ 14 called spoiled in (spoiled, same, same-memory);
+          ∙ subst (λ x. choose memorySource (machineOf (x .state) mem) w l .answer ≡ Refused 14) (sym all-zeros) (zeros-refused why mem w l) in
+          let (same, same-memory) = refused-unchanged (o .state) mem w l r mem′ 14 called spoiled in (spoiled, same, same-memory);
     }

@@ -27,8 +27,8 @@ pub came-token : (event : ℕ → Answer) {t n : ℕ} {told : List Answer} → C
 came-token event (before, after, e) t-is = (before, after, e ∙ ap (λ u. before ++ (event u ∷ after)) t-is)
 
 -- an event of a place at a pipe came
-abbrev CameAt : (ℕ → ℕ → ℕ → ℕ → Answer) → ℕ → ℕ → List Answer → Type 0
-CameAt event p k told = (l : ℕ) × (t : ℕ) × Came (event l p t k) told
+abbrev CameAt : (ℕ → ℕ → ℕ → ℕ → ℕ → Answer) → ℕ → ℕ → List Answer → Type 0
+CameAt event p k told = (l : ℕ) × (t : ℕ) × (w : ℕ) × Came (event l p t k w) told
 
 -- two pairs that are counted as the same are the same
 same-pair : (a b c d : ℕ) → 1 ≤ samePair a b c d → (c ≡ a) × (d ≡ b)
@@ -37,31 +37,31 @@ same-pair a b c d h = by-test (eqb c a)
     (λ e. by-test (eqb d b) (λ f. (eqb-true c a e, eqb-true d b f)) (λ f. absurd (omega (arith, rw (e, f) at h))))
     (λ e. absurd (omega (arith, rw e at h)))
 
-module _ (event : ℕ → ℕ → ℕ → ℕ → Answer) (p k : ℕ) where
+module _ (event : ℕ → ℕ → ℕ → ℕ → ℕ → Answer) (p k : ℕ) where
   -- what came in the rest of a list came in the list
   later : {a : Answer} {told : List Answer} → CameAt event p k told → CameAt event p k (a ∷ told)
-  later {a} (l, t, (before, after, e)) = (l, t, (a ∷ before, after, ap (λ (rest : List Answer). a ∷ rest) e))
+  later {a} (l, t, w, (before, after, e)) = (l, t, w, (a ∷ before, after, ap (λ (rest : List Answer). a ∷ rest) e))
 
   -- one event more in front: it is the one that is counted, or that came later
-  here-or-later : (l q t i : ℕ) (told : List Answer) (rest : ℕ) → 1 ≤ samePair p k q i + rest → (1 ≤ rest → CameAt event p k told) →
-      CameAt event p k (event l q t i ∷ told)
-  here-or-later l q t i told rest h behind = by-cases (decLe 1 (samePair p k q i))
-      (λ one. let (q-is, i-is) = same-pair p k q i one in (l, t, ([], told, rw (q-is, i-is))))
+  here-or-later : (l q t i w : ℕ) (told : List Answer) (rest : ℕ) → 1 ≤ samePair p k q i + rest → (1 ≤ rest → CameAt event p k told) →
+      CameAt event p k (event l q t i w ∷ told)
+  here-or-later l q t i w told rest h behind = by-cases (decLe 1 (samePair p k q i))
+      (λ one. let (q-is, i-is) = same-pair p k q i one in (l, t, w, ([], told, rw (q-is, i-is))))
       (λ none. later (behind (omega arith)))
 
 -- an event that is counted came
 pub started-came : (p k : ℕ) (told : List Answer) → 1 ≤ startsOf p k told → CameAt Started p k told
 unfolding startsOf
 started-came p k [] h = absurd (omega arith)
-started-came p k (Started l q t i ∷ told) h = here-or-later Started p k l q t i told (startsOf p k told) h (started-came p k told)
-started-came p k (Finished l q t i ∷ told) h = later Started p k (started-came p k told h)
-started-came p k (Stopped l ∷ told) h = later Started p k (started-came p k told h)
+started-came p k (Started l q t i w ∷ told) h = here-or-later Started p k l q t i w told (startsOf p k told) h (started-came p k told)
+started-came p k (Finished l q t i w ∷ told) h = later Started p k (started-came p k told h)
+started-came p k (Stopped l w ∷ told) h = later Started p k (started-came p k told h)
 started-came p k (Refused n ∷ told) h = later Started p k (started-came p k told h)
 
 pub finished-came : (p k : ℕ) (told : List Answer) → 1 ≤ finishesOf p k told → CameAt Finished p k told
 unfolding finishesOf
 finished-came p k [] h = absurd (omega arith)
-finished-came p k (Started l q t i ∷ told) h = later Finished p k (finished-came p k told h)
-finished-came p k (Finished l q t i ∷ told) h = here-or-later Finished p k l q t i told (finishesOf p k told) h (finished-came p k told)
-finished-came p k (Stopped l ∷ told) h = later Finished p k (finished-came p k told h)
+finished-came p k (Started l q t i w ∷ told) h = later Finished p k (finished-came p k told h)
+finished-came p k (Finished l q t i w ∷ told) h = here-or-later Finished p k l q t i w told (finishesOf p k told) h (finished-came p k told)
+finished-came p k (Stopped l w ∷ told) h = later Finished p k (finished-came p k told h)
 finished-came p k (Refused n ∷ told) h = later Finished p k (finished-came p k told h)

@@ -26,6 +26,7 @@ same-state s t mem mem′ e = (
     running = e i .slots .running;
     token = e i .slots .token;
     place = e i .slots .place;
+    worker = e i .slots .worker;
     placed = e i .placed;
     stopped = e i .stopped;
     tables = e i .source .0;
@@ -34,9 +35,9 @@ same-state s t mem mem′ e = (
 )
 
 -- a call of `choose` that is refused, in whatever state and memory
-pub refused-unchanged : (s : State) (m : List ℕ) (l : ℕ) (r : Chosen) (m′ : List ℕ) (n : ℕ) →
-    ChooseCall s m l r m′ → answerOf (r .answer) ≡ Refused n → (r .state ≡ s) × (m′ ≡ m)
+pub refused-unchanged : (s : State) (m : List ℕ) (w l : ℕ) (r : Chosen) (m′ : List ℕ) (n : ℕ) →
+    ChooseCall s m w l r m′ → answerOf (r .answer) ≡ Refused n → (r .state ≡ s) × (m′ ≡ m)
 unfolding chosenOf
-refused-unchanged s m l r m′ n called told =
+refused-unchanged s m w l r m′ n called told =
     same-state (r .state) s m′ m
-    (ap (λ c. c .machine) called ∙ rules.refused-unchanged (machineOf s m) memorySource l n (sym (ap (λ c. c .answer) called) ∙ told))
+    (ap (λ c. c .machine) called ∙ rules.refused-unchanged (machineOf s m) memorySource w l n (sym (ap (λ c. c .answer) called) ∙ told))

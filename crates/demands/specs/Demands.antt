@@ -8,9 +8,10 @@ use lib.ListN.{length, getD, take, drop}
 use Rattle.rules.specs.Lists.{has, times, Every}
 use Rattle.rules.specs.TakingTokens as rules
 use Rattle.rules.specs.RunState.{Machine}
-use Rattle.rules.specs.Choices.{Answer, Started, Finished, Stopped, Refused, opened, choose, answers, follow, ended}
+use Rattle.rules.specs.Choices.{Choice, Answer, Started, Finished, Stopped, Refused, opened, chooseBy, answers, follow, ended}
 use Rattle.rules.specs.RelatedSources.{withSource, mapMachine}
 use Rattle.rules.specs.PlainSheet.{Row, rows, sheet, plainSource}
+use Rattle.rules.specs.Workers.{OneLineEach}
 use Rattle.rules.specs.Chains.{Blocked}
 use Rattle.rules.specs.WholeRuns.{WorkersInRange, Carries, ordered, accepted, startsOf, finishesOf, final}
 use Rattle.rules.specs.WholeRuns.{events, end, withWorkers, oneWorker, Accepted, lastOf}
@@ -27,7 +28,7 @@ Came a told = (before : List Answer) × (after : List Answer) × (told ≡ befor
 
 -- a Started event names this token
 abbrev pub IsStarted : ℕ → List Answer → Type 0
-IsStarted n told = (l : ℕ) × (p : ℕ) × (k : ℕ) × Came (Started l p n k) told
+IsStarted n told = (l : ℕ) × (p : ℕ) × (k : ℕ) × (w : ℕ) × Came (Started l p n k w) told
 
 -- a machine over the rules' tables and one over the tables in memory: the same but for these, which match
 pub record Alike (tokens : ℕ) (numbers : ℕ → List ℕ) (a : Machine rules.Tables) (b : Machine State) : Type 0 where
@@ -49,12 +50,12 @@ module _ (p : Plan) (m : List ℕ) where
   begun = (openedTables (p .tokens), laidOut (p .records) m)
 
   -- a run with so many workers and these choices: its answers, the machine that it leaves, and the deferred table there
-  module _ (workers : ℕ) (ls : List ℕ) where
+  module _ (workers : ℕ) (cs : List Choice) where
     abbrev pub told : List Answer
-    told = events memorySource (pipelineOf p) workers begun ls
+    told = events memorySource (pipelineOf p) workers begun cs
 
     abbrev pub left : Machine State
-    left = end memorySource (pipelineOf p) workers begun ls
+    left = end memorySource (pipelineOf p) workers begun cs
 
     abbrev pub deferredAtEnd : List ℕ
     deferredAtEnd = tableOf (left .source .0) (left .source .1)
@@ -62,7 +63,7 @@ module _ (p : Plan) (m : List ℕ) where
 -- What the demands say of a run's answers, of the machine that it left, and of its end. For a session of the code these
 -- are the paper's values of its answers, the machine of the state and memory that it left, and what `ended` returns for
 -- that state (specs/CodeRuns.antt).
-pub record Shows (p : Plan) (workers : ℕ) (lent choices : List ℕ) (events : List Answer) (machine : Machine State) (over : Bool) : Type 0 where
+pub record Shows (p : Plan) (workers : ℕ) (lent : List ℕ) (choices : List Choice) (events : List Answer) (machine : Machine State) (over : Bool) : Type 0 where
   -- "The run has ended when it is marked stopped, no line runs and no waiting line has counter 0."
   pub over-is : over ≡ ended machine
   -- "The order of a run is that of its Started events at pipe 0. After any list it is a first part of the sheet, at the
@@ -77,12 +78,12 @@ pub record Shows (p : Plan) (workers : ℕ) (lent choices : List ℕ) (events : 
   pub at-most-once : (q k : ℕ) → q < length (p .kinds) → k < length (order p) → (startsOf q k events ≤ 1) × (finishesOf q k events ≤ 1)
   pub each-once : over ≡ true → (q k : ℕ) → q < length (p .kinds) → k < length (order p) → (startsOf q k events ≡ 1) × (finishesOf q k events ≡ 1)
   -- "At a serial pipe a token starts after the one before it on the sheet has finished there,
-  pub in-turn : (before after : List Answer) (l q t k : ℕ) → events ≡ before ++ (Started l q t k ∷ after) →
+  pub in-turn : (before after : List Answer) (l q t k w : ℕ) → events ≡ before ++ (Started l q t k w ∷ after) →
       getD (pipelineOf p .serial) q false ≡ true → (j : ℕ) → j < k → finishesOf q j before ≡ 1
   -- and so after all it deferred to: every number that its records list."
-  pub after-deferred : (before after : List Answer) (l q t k : ℕ) → events ≡ before ++ (Started l q t k ∷ after) →
+  pub after-deferred : (before after : List Answer) (l q t k w : ℕ) → events ≡ before ++ (Started l q t k w ∷ after) →
       getD (pipelineOf p .serial) q false ≡ true → (n : ℕ) → has (numbers p t) n ≡ true →
-      (i : ℕ) × (j : ℕ) × Came (Finished i q n j) before
+      (i : ℕ) × (j : ℕ) × (v : ℕ) × Came (Finished i q n j v) before
   -- "A token stays deferred if it is below N and no Started event of a run followed to its end names it; the deferred
   -- table then holds just these", each once;
   pub stays : over ≡ true → (n : ℕ) →
@@ -94,7 +95,9 @@ pub record Shows (p : Plan) (workers : ℕ) (lent choices : List ℕ) (events : 
   -- at the end every number of the state but those of the tables is told by the plan, W and M
   pub end-state : over ≡ true → machine ≡ final (pipelineOf p) workers (length (order p)) (machine .source)
   -- "before its end every run has an allowed choice": one that `choose` would accept next
-  pub goes-on : over ≡ false → (l : ℕ) × (l < p .lines) × Accepted (choose memorySource machine l .answer)
+  pub goes-on : over ≡ false → (c : Choice) × (c .worker < workers) × (c .line < p .lines) × Accepted (chooseBy memorySource machine c .answer)
+  -- no worker runs two lines at a time: "A start needs the named worker idle" (02, 2.14)
+  pub one-line-each : OneLineEach (machine .slots) (p .lines)
   -- "no run gets 14"
   pub never-spoiled : Every (λ a. a ≡ Refused 14 → ⊥) events
   -- demand 2: the answers are those of the rules, and so is the machine, but for the tables, which match
@@ -109,21 +112,21 @@ abbrev pub endState : Machine State → Machine State
 endState a = withWorkers 0 (withSource a (a .source .0, take 32768 (a .source .1)))
 
 -- the choices of the one-worker run
-abbrev pub oneWorkerChoices : Plan → List ℕ
+abbrev pub oneWorkerChoices : Plan → List Choice
 oneWorkerChoices p = oneWorker (pipelineOf p) 0 (length (order p))
 
 -- what holds of a plan's runs, in whatever memory
 pub record Demands (p : Plan) : Type 0 where
-  pub runs : (m : List ℕ) → 32768 ≤ length m → (workers : ℕ) → WorkersInRange workers → (ls : List ℕ) →
-      Shows p workers m ls (told p m workers ls) (left p m workers ls) (ended (left p m workers ls))
+  pub runs : (m : List ℕ) → 32768 ≤ length m → (workers : ℕ) → WorkersInRange workers → (cs : List Choice) →
+      Shows p workers m cs (told p m workers cs) (left p m workers cs) (ended (left p m workers cs))
   -- what was in the first 32,768 lent numbers before the opening plays no part, at the end or before
-  pub whatever-lent : (m : List ℕ) (workers : ℕ) → WorkersInRange workers → (ls : List ℕ) →
-      left p m workers ls ≡ mapMachine (beyond (drop 32768 m)) (left p [] workers ls)
+  pub whatever-lent : (m : List ℕ) (workers : ℕ) → WorkersInRange workers → (cs : List Choice) →
+      left p m workers cs ≡ mapMachine (beyond (drop 32768 m)) (left p [] workers cs)
   -- two runs that have ended, with whatever memory, workers and choices, have left the same end state
-  pub same-end : (m k : List ℕ) (w v : ℕ) → WorkersInRange w → WorkersInRange v → (ls ks : List ℕ) →
-      ended (left p m w ls) ≡ true → ended (left p k v ks) ≡ true →
-      endState (left p m w ls) ≡ endState (left p k v ks)
+  pub same-end : (m k : List ℕ) (w v : ℕ) → WorkersInRange w → WorkersInRange v → (cs ds : List Choice) →
+      ended (left p m w cs) ≡ true → ended (left p k v ds) ≡ true →
+      endState (left p m w cs) ≡ endState (left p k v ds)
   -- the one-worker run: all its choices are accepted, the last stops, and it has ended
   pub one-worker : (m : List ℕ) → Every Accepted (told p m 1 (oneWorkerChoices p))
-  pub one-worker-stops : (m : List ℕ) (a : Answer) → lastOf a (told p m 1 (oneWorkerChoices p)) ≡ Stopped (length (order p) % p .lines)
+  pub one-worker-stops : (m : List ℕ) (a : Answer) → lastOf a (told p m 1 (oneWorkerChoices p)) ≡ Stopped (length (order p) % p .lines) 0
   pub one-worker-ends : (m : List ℕ) → ended (left p m 1 (oneWorkerChoices p)) ≡ true

@@ -7,6 +7,7 @@ use lib.Dec.{eqb, ltb}
 use lib.ListN.{getD, set}
 use Rattle.rules.specs.Lists.{if, mustNot}
 use Rattle.vocabulary.specs.declared.Line.{Line}
+use Rattle.vocabulary.specs.declared.Worker.{Worker}
 use Rattle.vocabulary.specs.declared.Slot.{Slot}
 use Rattle.vocabulary.specs.declared.Slots.{Slots}
 use Rattle.vocabulary.specs.declared.answer.Answer.{Answer}
@@ -63,14 +64,14 @@ abbrev pub finishedOf : {X : Type 0} → Machine X → ℕ → List ℕ → X �
 finishedOf m l c x =
     let s : Slot = slotOf m l in
     record {
-      answer = Finished l (s .pipe .0) (s .token .0) (s .place .0);
+      answer = Finished l (s .pipe .0) (s .token .0) (s .place .0) (s .worker .0);
       machine = withPlace m c (putSlot (m .slots) l (moved (m .pipes) s)) (m .placed) (m .stopped) x;
     }
 
 -- a finish, worked out
 abbrev pub settledTurn : Figures → Line → Slot → Falls → Tables → Turn
 settledTurn f line slot x t = Turn.Made (record {
-  answer = Answer.Finished (record { line = line; pipe = slot .pipe; token = slot .token; place = slot .place });
+  answer = Answer.Finished (record { line = line; pipe = slot .pipe; token = slot .token; place = slot .place; worker = slot .worker });
   first = x .first;
   second = x .second;
   slot = moved (f .pipes) slot;
@@ -84,19 +85,19 @@ abbrev pub refilled : Figures → ℕ → ℕ → Cell
 refilled f l p = record { at = counterAt l p; value = full (getD (f .serial) p false) }
 
 -- a start with a token that the line holds, one with a token that was taken, and a stop, worked out
-abbrev pub startedTurn : Figures → Line → Slot → Turn
-startedTurn f line slot = Turn.Made (record {
-  answer = Answer.Started (record { line = line; pipe = slot .pipe; token = slot .token; place = slot .place });
+abbrev pub startedTurn : Figures → Worker → Line → Slot → Turn
+startedTurn f worker line slot = Turn.Made (record {
+  answer = Answer.Started (record { line = line; pipe = slot .pipe; token = slot .token; place = slot .place; worker = worker });
   first = refilled f (line .0) (slot .pipe .0);
   second = refilled f (line .0) (slot .pipe .0);
-  slot = record { pipe = slot .pipe; running = true; token = slot .token; place = slot .place };
+  slot = record { pipe = slot .pipe; running = true; token = slot .token; place = slot .place; worker = worker };
   placed = f .placed;
   stopped = f .stopped;
   tables = f .tables;
 })
 
-abbrev pub takenTurn : Figures → Line → ℕ → Tables → Turn
-takenTurn f line token t =
+abbrev pub takenTurn : Figures → Worker → Line → ℕ → Tables → Turn
+takenTurn f worker line token t =
     startedTurn (record {
       pipes = f .pipes;
       lines = f .lines;
@@ -105,11 +106,11 @@ takenTurn f line token t =
       placed = f .placed + 1;
       stopped = f .stopped;
       tables = t;
-    }) line (waits 0 token (f .placed))
+    }) worker line (waits 0 token (f .placed))
 
-abbrev pub stoppedTurn : Figures → Line → Slot → Tables → Turn
-stoppedTurn f line slot t = Turn.Made (record {
-  answer = Answer.Stopped line;
+abbrev pub stoppedTurn : Figures → Worker → Line → Slot → Tables → Turn
+stoppedTurn f worker line slot t = Turn.Made (record {
+  answer = Answer.Stopped (record { line = line; worker = worker });
   first = refilled f (line .0) 0;
   second = refilled f (line .0) 0;
   slot = slot;
@@ -119,8 +120,8 @@ stoppedTurn f line slot t = Turn.Made (record {
 })
 
 -- a turn is the start at pipe 0 with what the tables give, in every state with these figures where the line has this slot
-abbrev pub StartsFirst : Figures → List ℕ → ℕ → Slot → Turn → List ℕ → List ℕ → Type 0
-StartsFirst f counters l slot turn m m′ =
+abbrev pub StartsFirst : Figures → List ℕ → ℕ → ℕ → Slot → Turn → List ℕ → List ℕ → Type 0
+StartsFirst f counters w l slot turn m m′ =
     (slots : Slots) → slotAt slots l ≡ slot →
     chosenOf (turned (whole f counters slots) l turn) m′ ≡
-    startFirst memorySource (machineOf (whole f counters slots) m) l (safeTake (f .tables, m))
+    startFirst memorySource (machineOf (whole f counters slots) m) w l (safeTake (f .tables, m))

@@ -1,5 +1,6 @@
 -- A choice worked out on the parts of a state, and made of the whole.
 use mathlib.Core.Path.{_≡_}
+use mathlib.Core.Bool.{Bool}
 use mathlib.Core.List.{List}
 use Prim.Native.Nat.{ℕ, _<_}
 use lib.ListN.{set}
@@ -37,6 +38,7 @@ turned s l (Made c) = record {
     running = putSlot (slotsOf s) l (c .slot) .running;
     token = putSlot (slotsOf s) l (c .slot) .token;
     place = putSlot (slotsOf s) l (c .slot) .place;
+    worker = putSlot (slotsOf s) l (c .slot) .worker;
     placed = c .placed;
     stopped = c .stopped;
     tables = c .tables;
@@ -54,8 +56,8 @@ Follows rule f counters l slot turn m m′ =
     (slots : Slots) → slotAt slots l ≡ slot →
     chosenOf (turned (whole f counters slots) l turn) m′ ≡ rule (machineOf (whole f counters slots) m) l
 
--- it is what the rules make of the line in every such state where so many lines run
-abbrev pub MovesAs : Figures → List ℕ → Slot → ℕ → ℕ → Turn → List ℕ → List ℕ → Type 0
-MovesAs f counters slot running l turn m m′ =
-    (slots : Slots) → slotAt slots l ≡ slot → running ≡ rules.runningBelow slots (f .lines) →
-    chosenOf (turned (whole f counters slots) l turn) m′ ≡ rules.move memorySource (machineOf (whole f counters slots) m) l
+-- it is what the rules make of the worker and the line in every such state where the worker runs a line, or runs none
+abbrev pub MovesAs : Figures → List ℕ → Slot → Bool → ℕ → ℕ → Turn → List ℕ → List ℕ → Type 0
+MovesAs f counters slot busy w l turn m m′ =
+    (slots : Slots) → slotAt slots l ≡ slot → busy ≡ rules.atWork slots w (f .lines) →
+    chosenOf (turned (whole f counters slots) l turn) m′ ≡ rules.move memorySource (machineOf (whole f counters slots) m) w l

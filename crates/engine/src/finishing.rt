@@ -14,6 +14,7 @@ use vocabulary::Refusal;
 use vocabulary::Slot;
 use vocabulary::Step;
 use vocabulary::Token;
+use vocabulary::Worker;
 ghost use mathlib.Core.Path.{_≡_};
 ghost use Prim.Native.Nat.{_-_, _<_, _≤_};
 ghost use lib.Dec.{eqb};
@@ -100,7 +101,7 @@ fn next_of(n: u16, i: u16) -> u16
     after
 }
 
-// What a line does that has finished a pipe: it waits at the next, and holds no token at pipe 0.
+// What a line does that has finished a pipe: it waits at the next, without a worker, and holds no token at pipe 0.
 fn moved(slot: Slot, pipes: u16) -> Slot
     requires { ⌜ slot .pipe .0 < pipes ⌝ }
     ensures { λ r. ⌜ r ≡ movedOf pipes slot ⌝ }
@@ -114,6 +115,7 @@ fn moved(slot: Slot, pipes: u16) -> Slot
             running: false,
             token: Token(0),
             place: Place(0),
+            worker: Worker(0),
         };
     }
     Slot {
@@ -121,6 +123,7 @@ fn moved(slot: Slot, pipes: u16) -> Slot
         running: false,
         token,
         place,
+        worker: Worker(0),
     }
 }
 
@@ -147,6 +150,7 @@ fn settle(f: Figures, slot: Slot, line: Line, fallen: Falls, t: Tables) -> Turn
     let pipe = slot.pipe;
     let token = slot.token;
     let place = slot.place;
+    let worker = slot.worker;
     let first = fallen.first;
     let second = fallen.second;
     Turn::Made(Change {
@@ -155,6 +159,7 @@ fn settle(f: Figures, slot: Slot, line: Line, fallen: Falls, t: Tables) -> Turn
             pipe,
             token,
             place,
+            worker,
         }),
         first,
         second,

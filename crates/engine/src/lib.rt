@@ -12,6 +12,7 @@ use vocabulary::Line;
 use vocabulary::Refusal;
 use vocabulary::Slot;
 use vocabulary::Slots;
+use vocabulary::Worker;
 ghost use mathlib.Core.Path.{_≡_};
 ghost use Rattle.rules.specs.Choices.{choose as chosenBy};
 ghost use Rattle.tables.specs.Calls.{memorySource};
@@ -25,66 +26,83 @@ pub struct Chosen {
     pub state: State,
 }
 
-// A choice of a line below L, in a run that has not ended: what the line does, and how many lines run, is known.
+// A choice of a worker below W and a line below L, in a run that has not ended: what the line does, and whether the worker runs one,
+// is known.
 fn move_line(
     f: Figures,
     slot: Slot,
-    running: u16,
+    busy: bool,
     counters: &[u8; 512],
     mem: &mut [u16],
+    worker: Worker,
     line: Line,
 ) -> Turn
     requires { ⌜ Ready f slot (line .0) ⌝ }
     ensures fits { λ r. ⌜ Fits (line .0) r ⌝ }
-    ensures moves { λ r. ⌜ MovesAs f (now (counters .entry)) slot running (line .0) r (now (mem .entry)) (now (mem .exit)) ⌝ }
+    ensures moves { λ r. ⌜ MovesAs f (now (counters .entry)) slot busy (worker .0) (line .0) r (now (mem .entry)) (now (mem .exit)) ⌝ }
 {
     if slot.running {
+        if slot.worker.0 != worker.0 {
+            return Turn::Refused(Refusal::WrongWorker);
+        }
         return finishing::finish(f, slot, counters, mem, line);
     }
     let at = COUNTERS_OF_LINE * line.0 as usize + slot.pipe.0 as usize;
     if counters[at] != 0 {
         return Turn::Refused(Refusal::Early);
     }
-    if f.workers <= running {
-        return Turn::Refused(Refusal::Crowded);
+    if busy {
+        return Turn::Refused(Refusal::WorkerBusy);
     }
-    starting::start(f, slot, mem, line)
+    starting::start(f, slot, mem, worker, line)
 }
 
 // A choice, worked out.
-fn turn_of(f: Figures, slots: Slots, counters: &[u8; 512], mem: &mut [u16], line: Line) -> Turn
+fn turn_of(
+    f: Figures,
+    slots: Slots,
+    counters: &[u8; 512],
+    mem: &mut [u16],
+    worker: Worker,
+    line: Line,
+) -> Turn
     ensures fits { λ r. ⌜ Fits (line .0) r ⌝ }
     ensures chooses { λ r. ⌜ chosenOf (turned (whole f (now (counters .entry)) slots) (line .0) r) (now (mem .exit)) ≡
-        chosenBy memorySource (machineOf (whole f (now (counters .entry)) slots) (now (mem .entry))) (line .0) ⌝ }
+        chosenBy memorySource (machineOf (whole f (now (counters .entry)) slots) (now (mem .entry))) (worker .0) (line .0) ⌝ }
 {
-    let seen = ranges::look_over(f, slots, counters, mem, line.0);
+    let seen = ranges::look_over(f, slots, counters, mem, worker.0, line.0);
     if !seen.sound {
         return Turn::Refused(Refusal::Spoiled);
     }
     if f.lines <= line.0 {
         return Turn::Refused(Refusal::NoLine);
     }
+    if f.workers <= worker.0 {
+        return Turn::Refused(Refusal::WrongWorker);
+    }
     if state::is_over(f.stopped, f.lines, slots, counters) {
         return Turn::Refused(Refusal::Ended);
     }
     let slot = seen.slot;
-    move_line(f, slot, seen.running, counters, mem, line)
+    move_line(f, slot, seen.busy, counters, mem, worker, line)
 }
 
-// A choice names a line: it starts, finishes or stops, or the choice is refused.
-pub fn choose(mut s: State, mem: &mut [u16], line: Line) -> Chosen
-    ensures { λ r. ⌜ chosenOf r (now (mem .exit)) ≡ chosenBy memorySource (machineOf s (now (mem .entry))) (line .0) ⌝ }
+// A choice names a worker and a line: the line starts, finishes or stops, or the choice is refused.
+pub fn choose(mut s: State, mem: &mut [u16], worker: Worker, line: Line) -> Chosen
+    ensures { λ r. ⌜ chosenOf r (now (mem .exit)) ≡ chosenBy memorySource (machineOf s (now (mem .entry))) (worker .0) (line .0) ⌝ }
 {
     let serial = s.serial;
     let at = s.at;
     let running = s.running;
     let token = s.token;
     let place = s.place;
+    let workers = s.worker;
     let slots = Slots {
         at,
         running,
         token,
         place,
+        worker: workers,
     };
     let t = s.tables;
     let f = Figures {
@@ -96,7 +114,7 @@ pub fn choose(mut s: State, mem: &mut [u16], line: Line) -> Chosen
         stopped: s.stopped,
         tables: t,
     };
-    let turn = turn_of(f, slots, &s.counters, mem, line);
+    let turn = turn_of(f, slots, &s.counters, mem, worker, line);
     match turn {
         Turn::Refused(why) => Chosen {
             answer: Answer::Refused(why),
@@ -115,11 +133,13 @@ pub fn choose(mut s: State, mem: &mut [u16], line: Line) -> Chosen
             let pipe = slot.pipe;
             let token = slot.token;
             let place = slot.place;
+            let by = slot.worker;
             let l = line.0 as usize;
             s.at[l] = pipe;
             s.running[l] = slot.running;
             s.token[l] = token;
             s.place[l] = place;
+            s.worker[l] = by;
             s.placed = change.placed;
             s.stopped = change.stopped;
             s.tables = after;

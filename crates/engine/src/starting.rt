@@ -15,7 +15,9 @@ use vocabulary::Place;
 use vocabulary::Refusal;
 use vocabulary::Slot;
 use vocabulary::Step;
+use vocabulary::Stop;
 use vocabulary::Token;
+use vocabulary::Worker;
 ghost use mathlib.Core.Path.{_≡_};
 ghost use mathlib.Core.List.{List};
 ghost use Prim.Native.Nat.{ℕ, _<_};
@@ -39,10 +41,10 @@ fn refill(f: Figures, l: usize, p: usize) -> Cell
     }
 }
 
-// The line starts the pipe of this slot, with its token and place.
-fn start_at(f: Figures, line: Line, slot: Slot) -> Turn
+// The worker starts the pipe of this slot on the line, with its token and place.
+fn start_at(f: Figures, worker: Worker, line: Line, slot: Slot) -> Turn
     requires { ⌜ (line .0 < 32) × (slot .pipe .0 < 16) ⌝ }
-    ensures { λ r. ⌜ r ≡ startedTurn f line slot ⌝ }
+    ensures { λ r. ⌜ r ≡ startedTurn f worker line slot ⌝ }
 {
     let pipe = slot.pipe;
     let token = slot.token;
@@ -55,6 +57,7 @@ fn start_at(f: Figures, line: Line, slot: Slot) -> Turn
             pipe,
             token,
             place,
+            worker,
         }),
         first: full,
         second: full,
@@ -63,6 +66,7 @@ fn start_at(f: Figures, line: Line, slot: Slot) -> Turn
             running: true,
             token,
             place,
+            worker,
         },
         placed: f.placed,
         stopped: f.stopped,
@@ -71,9 +75,9 @@ fn start_at(f: Figures, line: Line, slot: Slot) -> Turn
 }
 
 // A start at pipe 0 with a token that was taken, and the tables after it.
-fn start_with(f: Figures, line: Line, token: u16, t: Tables) -> Turn
+fn start_with(f: Figures, worker: Worker, line: Line, token: u16, t: Tables) -> Turn
     requires { ⌜ (line .0 < 32) × (f .placed < f .tables .tokens) ⌝ }
-    ensures { λ r. ⌜ r ≡ takenTurn f line token t ⌝ }
+    ensures { λ r. ⌜ r ≡ takenTurn f worker line token t ⌝ }
 {
     let token = Token(token);
     let place = Place(f.placed);
@@ -82,21 +86,22 @@ fn start_with(f: Figures, line: Line, token: u16, t: Tables) -> Turn
         running: false,
         token,
         place,
+        worker: Worker(0),
     };
     let mut next = f;
     next.placed = f.placed + 1;
     next.tables = t;
-    start_at(next, line, slot)
+    start_at(next, worker, line, slot)
 }
 
 // A stop: no token is left.
-fn stop(f: Figures, slot: Slot, line: Line, t: Tables) -> Turn
+fn stop_line(f: Figures, slot: Slot, worker: Worker, line: Line, t: Tables) -> Turn
     requires { ⌜ line .0 < 32 ⌝ }
-    ensures { λ r. ⌜ r ≡ stoppedTurn f line slot t ⌝ }
+    ensures { λ r. ⌜ r ≡ stoppedTurn f worker line slot t ⌝ }
 {
     let full = refill(f, line.0 as usize, 0);
     Turn::Made(Change {
-        answer: Answer::Stopped(line),
+        answer: Answer::Stopped(Stop { line, worker }),
         first: full,
         second: full,
         slot,
@@ -122,10 +127,10 @@ fn overfull(f: Figures, mem: &[u16]) -> bool
 }
 
 // A start at pipe 0: a token is taken, or there is none.
-fn start_first(f: Figures, slot: Slot, mem: &mut [u16], line: Line) -> Turn
+fn start_first(f: Figures, slot: Slot, mem: &mut [u16], worker: Worker, line: Line) -> Turn
     requires { ⌜ Ready f slot (line .0) ⌝ }
     ensures fits { λ r. ⌜ Fits (line .0) r ⌝ }
-    ensures starts { λ r. ⌜ ((counters : List ℕ) → StartsFirst f counters (line .0) slot r (now (mem .entry)) (now (mem .exit))) ⌝ }
+    ensures starts { λ r. ⌜ ((counters : List ℕ) → StartsFirst f counters (worker .0) (line .0) slot r (now (mem .entry)) (now (mem .exit))) ⌝ }
 {
     if overfull(f, mem) {
         return Turn::Refused(Refusal::Spoiled);
@@ -133,19 +138,19 @@ fn start_first(f: Figures, slot: Slot, mem: &mut [u16], line: Line) -> Turn
     let t = f.tables;
     match taking::take(mem, t) {
         Taken::Spoiled => Turn::Refused(Refusal::Spoiled),
-        Taken::Nothing(after) => stop(f, slot, line, after),
-        Taken::Took(token, after) => start_with(f, line, token, after),
+        Taken::Nothing(after) => stop_line(f, slot, worker, line, after),
+        Taken::Took(token, after) => start_with(f, worker, line, token, after),
     }
 }
 
 // A start.
-pub(crate) fn start(f: Figures, slot: Slot, mem: &mut [u16], line: Line) -> Turn
+pub(crate) fn start(f: Figures, slot: Slot, mem: &mut [u16], worker: Worker, line: Line) -> Turn
     requires { ⌜ Ready f slot (line .0) ⌝ }
     ensures fits { λ r. ⌜ Fits (line .0) r ⌝ }
-    ensures follows { λ r. ⌜ ((counters : List ℕ) → Follows (startedBy memorySource) f counters (line .0) slot r (now (mem .entry)) (now (mem .exit))) ⌝ }
+    ensures follows { λ r. ⌜ ((counters : List ℕ) → Follows (λ m l. startedBy memorySource m (worker .0) l) f counters (line .0) slot r (now (mem .entry)) (now (mem .exit))) ⌝ }
 {
     if slot.pipe.0 == 0 {
-        return start_first(f, slot, mem, line);
+        return start_first(f, slot, mem, worker, line);
     }
-    start_at(f, line, slot)
+    start_at(f, worker, line, slot)
 }

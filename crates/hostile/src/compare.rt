@@ -30,6 +30,7 @@ fn same_slots(a: State, b: State) -> bool {
         same = same & (a.running[i] == b.running[i]);
         same = same & (a.token[i].0 == b.token[i].0);
         same = same & (a.place[i].0 == b.place[i].0);
+        same = same & (a.worker[i].0 == b.worker[i].0);
         i += 1;
     }
     same

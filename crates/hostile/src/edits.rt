@@ -1,11 +1,11 @@
 // Runs are spoiled by edits, `LETTER AT VALUE`. The letters are
 //     P L W K     of the state: pipes, lines, workers, tokens with a place
 //     S C         pipe AT is serial (1) or not (0), counter AT
-//     p r t k     of line AT: its pipe, whether it runs (1), its token, its place
+//     p r t k w   of line AT: its pipe, whether it runs (1), its token, its place, its worker
 //     N T F E D   of the tables: tokens, count (taken), the ready queue's first and end, how many are deferred
 //     M           lent number AT
 //     Z           all of the state is that of a refused opening
-//     !           no damage: line AT is chosen
+//     !           no damage: line AT is chosen, by worker VALUE
 use crate::report::Run;
 use crate::stored;
 use state::State;
@@ -14,6 +14,7 @@ use vocabulary::Line;
 use vocabulary::Pipe;
 use vocabulary::Place;
 use vocabulary::Token;
+use vocabulary::Worker;
 
 // A refused opening's state.
 pub fn zeros() -> State {
@@ -27,6 +28,7 @@ pub fn zeros() -> State {
         running: [false; 32],
         token: [Token(0); 32],
         place: [Place(0); 32],
+        worker: [Worker(0); 32],
         placed: 0,
         stopped: false,
         tables: Tables {
@@ -64,6 +66,7 @@ fn with_slot(s: State, letter: u8, at: usize, n: u16) -> State {
             b'r' => t.running[at] = n == 1,
             b't' => t.token[at] = Token(n),
             b'k' => t.place[at] = Place(n),
+            b'w' => t.worker[at] = Worker(n),
             _ => {}
         }
     }
@@ -105,10 +108,10 @@ fn edited_memory(mem: [u16; 32768], at: usize, n: u16) -> [u16; 32768] {
 }
 
 // The run after a choice.
-fn after(run: Run, line: u16) -> Run {
+fn after(run: Run, worker: u16, line: u16) -> Run {
     let before = run.state;
     let mut mem = run.mem;
-    let chosen = engine::choose(before, &mut mem, Line(line));
+    let chosen = engine::choose(before, &mut mem, Worker(worker), Line(line));
     let state = chosen.state;
     Run {
         state: state,
@@ -118,7 +121,7 @@ fn after(run: Run, line: u16) -> Run {
 
 fn edited(run: Run, letter: u8, at: u16, n: u16) -> Run {
     if letter == b'!' {
-        return after(run, at);
+        return after(run, n, at);
     }
     let state = run.state;
     let mem = run.mem;

@@ -1,7 +1,7 @@
-// The tries: choices on spoiled runs, and openings that are refused. Each is a line `VERB N EDITS:NAME` of data/tries.txt.
-//     c    line N is chosen, on the run at opening with these edits
-//     o    the plan is opened with N workers
-//     e    an empty file is opened with N workers
+// The tries: choices on spoiled runs, and openings that are refused. Each is a line `VERB W N EDITS:NAME` of data/tries.txt.
+//     c    worker W chooses line N, on the run at opening with these edits
+//     o    the plan is opened with W workers (N says nothing)
+//     e    an empty file is opened with W workers
 // In capitals, C and O, with one number too few lent.
 ghost use Prim.Native.Nat.{_≤_};
 use crate::compare;
@@ -14,6 +14,7 @@ use engine::Chosen;
 use opening::Opened;
 use state::State;
 use vocabulary::Line;
+use vocabulary::Worker;
 
 fn memory_of_zeros() -> [u16; 32768] {
     [0u16; 32768]
@@ -46,9 +47,9 @@ fn lent(all: usize, short: bool) -> usize
     all
 }
 
-fn choose(state: State, mem: &mut [u16], line: u16, short: bool) -> Chosen {
+fn choose(state: State, mem: &mut [u16], worker: u16, line: u16, short: bool) -> Chosen {
     let count = lent(mem.len(), short);
-    engine::choose(state, &mut mem[..count], Line(line))
+    engine::choose(state, &mut mem[..count], Worker(worker), Line(line))
 }
 
 fn open(file: &[u8], workers: u16, mem: &mut [u16], short: bool) -> Opened {
@@ -66,11 +67,11 @@ fn chosen_trial(before: State, chosen: Chosen, memory: bool) -> Trial {
     }
 }
 
-fn choice(run: Run, line: u16, short: bool) -> Trial {
+fn choice(run: Run, worker: u16, line: u16, short: bool) -> Trial {
     let state = run.state;
     let before = run.mem;
     let mut mem = run.mem;
-    let chosen = choose(state, &mut mem, line, short);
+    let chosen = choose(state, &mut mem, worker, line, short);
     chosen_trial(state, chosen, compare::same_memory(mem, before))
 }
 
@@ -91,12 +92,12 @@ fn opening(file: &[u8], workers: u16, short: bool) -> Trial {
     opened_trial(opened, compare::same_memory(mem, memory_of_sevens()))
 }
 
-fn tried(verb: u8, n: u16, run: Run, file: &[u8]) -> Trial {
+fn tried(verb: u8, w: u16, n: u16, run: Run, file: &[u8]) -> Trial {
     match verb {
-        b'c' => choice(run, n, false),
-        b'C' => choice(run, n, true),
-        b'e' => opening(b"", n, false),
-        _ => opening(file, n, verb == b'O'),
+        b'c' => choice(run, w, n, false),
+        b'C' => choice(run, w, n, true),
+        b'e' => opening(b"", w, false),
+        _ => opening(file, w, verb == b'O'),
     }
 }
 
@@ -106,9 +107,10 @@ pub fn next(fd: i32, file: &[u8]) -> bool {
     if verb == 0 {
         return false;
     }
+    let w = stored::number(fd);
     let n = stored::number(fd);
     let run = edits::spoiled(fd, opened(file));
-    let trial = tried(verb, n, run, file);
+    let trial = tried(verb, w, n, run, file);
     stored::print_line(fd);
     report::say(trial);
     true

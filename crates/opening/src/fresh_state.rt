@@ -16,6 +16,7 @@ use vocabulary::Pipe;
 use vocabulary::PipeKind;
 use vocabulary::Place;
 use vocabulary::Token;
+use vocabulary::Worker;
 
 // Which pipes are serial, by their file bytes.
 pub(crate) fn serials(bytes: &[u8]) -> [bool; 16]
@@ -90,6 +91,7 @@ pub(crate) fn fresh(
         running: [false; SLOTS],
         token: [Token(0); SLOTS],
         place: [Place(0); SLOTS],
+        worker: [Worker(0); SLOTS],
         placed: 0,
         stopped: false,
         tables: tables,

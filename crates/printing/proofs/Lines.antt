@@ -1,23 +1,18 @@
 -- The program's lines, text by text.
-use mathlib.Core.Path.{_≡_, refl, sym, ap, _∙_}
+use mathlib.Core.Path.{_≡_, ap, _∙_}
 use mathlib.Core.List.{List, [], _∷_, _++_}
 use Prim.Native.Nat.{ℕ, _<_}
 use Rattle.io.specs.Digits.{digits, Fewest}
 use Rattle.rules.specs.Answers.{answerOf}
 use Rattle.vocabulary.specs.Refusals.{numberOf}
-use Rattle.vocabulary.specs.declared.Line.{Line}
 use Rattle.vocabulary.specs.declared.answer.Step.{Step}
+use Rattle.vocabulary.specs.declared.answer.Stop.{Stop}
 use Rattle.vocabulary.specs.declared.answer.Answer.{Answer}
 use Rattle.vocabulary.specs.declared.refusal.Refusal.{Refusal}
 use Rattle.sink.specs.Sinks.{Output, putOf, putEach}
 use Rattle.sink.proofs.Putting.{put-one, put-first, each-first}
-use Rattle.printing.specs.Texts.{newline, decimal, numberTexts, refusalTexts, stepTexts, answerTexts}
+use Rattle.printing.specs.Texts.{newline, decimal, numberTexts, lastTexts, refusalTexts, stopTexts, stepTexts, answerTexts}
 use Rattle.printing.proofs.Decimal.{digits-decimal, at-most-20}
-
--- a number and a newline
-module _ (p : Output) {q r : Output} (n : ℕ) where
-  number-ended : q ≡ putEach p (numberTexts n) → r ≡ putOf q (10 ∷ []) → r ≡ putEach p (numberTexts n ++ newline)
-  number-ended q-is r-is = each-first p (numberTexts n) newline q-is (put-one q (10 ∷ []) r-is)
 
 module _ (o : Output) {p r : Output} where
   -- a space and a number
@@ -27,39 +22,47 @@ module _ (o : Output) {p r : Output} where
   put-number k n h f t-is p-is r-is =
       put-first o (32 ∷ []) (decimal n ∷ []) p-is (put-one p (decimal n) (r-is ∙ ap (putOf p) (t-is ∙ digits-decimal k n (at-most-20 k n h f) f)))
 
-  -- a line of one number
-  pub put-short : {q : Output} (t : List ℕ) (n : ℕ) → p ≡ putOf o t → q ≡ putEach p (numberTexts n) → r ≡ putOf q (10 ∷ []) →
-      r ≡ putEach o (t ∷ (numberTexts n ++ newline))
-  put-short t n p-is q-is r-is = put-first o t (numberTexts n ++ newline) p-is (number-ended p n q-is r-is)
+  -- the last number of a line
+  pub put-last : (n : ℕ) → p ≡ putEach o (numberTexts n) → r ≡ putOf p (10 ∷ []) → r ≡ putEach o (lastTexts n)
+  put-last n p-is r-is = each-first o (numberTexts n) newline p-is (put-one p (10 ∷ []) r-is)
 
-  -- line, pipe, token and place
-  pub put-step : {q s u : Output} (line pipe token place : ℕ) → p ≡ putEach o (numberTexts line) → q ≡ putEach p (numberTexts pipe) →
-      s ≡ putEach q (numberTexts token) → u ≡ putEach s (numberTexts place) → r ≡ putOf u (10 ∷ []) → r ≡ putEach o (stepTexts line pipe token place)
+  -- a refusal
+  pub put-refusal : {n m : ℕ} → n ≡ m → p ≡ putOf o (82 ∷ []) → r ≡ putEach p (lastTexts n) → r ≡ putEach o (refusalTexts m)
+  unfolding refusalTexts
+  put-refusal {n} e p-is r-is = rw (← e) (put-first o (82 ∷ []) (lastTexts n) p-is r-is)
+
+  -- a stop: line and worker
+  pub put-stop : {q : Output} (line worker : ℕ) → p ≡ putOf o (88 ∷ []) → q ≡ putEach p (numberTexts line) → r ≡ putEach q (lastTexts worker) →
+      r ≡ putEach o (stopTexts line worker)
+  unfolding stopTexts
+  put-stop line worker p-is q-is r-is =
+      put-first o (88 ∷ []) (numberTexts line ++ lastTexts worker) p-is (each-first p (numberTexts line) _ q-is r-is)
+
+  -- line, pipe, token, place and worker
+  pub put-step : {q s u : Output} (line pipe token place worker : ℕ) → p ≡ putEach o (numberTexts line) → q ≡ putEach p (numberTexts pipe) →
+      s ≡ putEach q (numberTexts token) → u ≡ putEach s (numberTexts place) → r ≡ putEach u (lastTexts worker) →
+      r ≡ putEach o (stepTexts line pipe token place worker)
   unfolding stepTexts
-  put-step {q} {s} line pipe token place p-is q-is s-is u-is r-is =
+  put-step {q} {s} line pipe token place worker p-is q-is s-is u-is r-is =
       each-first o (numberTexts line) _ p-is
       (each-first p (numberTexts pipe) _ q-is
       (each-first q (numberTexts token) _ s-is
-      (number-ended s place u-is r-is)))
+      (each-first s (numberTexts place) _ u-is r-is)))
 
--- a refusal, and an answer case by case
+-- an answer case by case
 module _ (o : Output) {r : Output} where
-  pub put-refusal : {n m : ℕ} → n ≡ m → r ≡ putEach o ((82 ∷ []) ∷ (numberTexts n ++ newline)) → r ≡ putEach o (refusalTexts m)
-  unfolding refusalTexts
-  put-refusal e r-is = rw (← e) r-is
-
   module _ {a : Answer} where
     pub put-started : {s : Step} → a ≡ Answer.Started s →
-        r ≡ putEach o ((83 ∷ []) ∷ stepTexts (s .line .0) (s .pipe .0) (s .token .0) (s .place .0)) → r ≡ putEach o (answerTexts (answerOf a))
+        r ≡ putEach o ((83 ∷ []) ∷ stepTexts (s .line .0) (s .pipe .0) (s .token .0) (s .place .0) (s .worker .0)) → r ≡ putEach o (answerTexts (answerOf a))
     unfolding answerTexts answerOf
     put-started e r-is = rw e r-is
 
     pub put-finished : {s : Step} → a ≡ Answer.Finished s →
-        r ≡ putEach o ((70 ∷ []) ∷ stepTexts (s .line .0) (s .pipe .0) (s .token .0) (s .place .0)) → r ≡ putEach o (answerTexts (answerOf a))
+        r ≡ putEach o ((70 ∷ []) ∷ stepTexts (s .line .0) (s .pipe .0) (s .token .0) (s .place .0) (s .worker .0)) → r ≡ putEach o (answerTexts (answerOf a))
     unfolding answerTexts answerOf
     put-finished e r-is = rw e r-is
 
-    pub put-stopped : {l : Line} → a ≡ Answer.Stopped l → r ≡ putEach o ((88 ∷ []) ∷ (numberTexts (l .0) ++ newline)) →
+    pub put-stopped : {s : Stop} → a ≡ Answer.Stopped s → r ≡ putEach o (stopTexts (s .line .0) (s .worker .0)) →
         r ≡ putEach o (answerTexts (answerOf a))
     unfolding answerTexts answerOf
     put-stopped e r-is = rw e r-is

@@ -22,17 +22,27 @@ numberTexts n = (32 ∷ []) ∷ decimal n ∷ []
 abbrev pub newline : List (List ℕ)
 newline = (10 ∷ []) ∷ []
 
+-- the last number of a line, and its end
+abbrev pub lastTexts : ℕ → List (List ℕ)
+lastTexts n = numberTexts n ++ newline
+
 -- `R n`
 unfoldable pub refusalTexts : ℕ → List (List ℕ)
-refusalTexts n = (82 ∷ []) ∷ (numberTexts n ++ newline)
+refusalTexts n = (82 ∷ []) ∷ lastTexts n
 
--- ` l p t k`: line, pipe, token and place
-unfoldable pub stepTexts : ℕ → ℕ → ℕ → ℕ → List (List ℕ)
-stepTexts line pipe token place = numberTexts line ++ (numberTexts pipe ++ (numberTexts token ++ (numberTexts place ++ newline)))
+-- `X l w`
+unfoldable pub stopTexts : ℕ → ℕ → List (List ℕ)
+stopTexts line worker = (88 ∷ []) ∷ (numberTexts line ++ lastTexts worker)
 
--- "each choice prints a line: `S l p t k` started, `F l p t k` finished, `X l` stopped, or `R n`"
+-- ` l p t k w`: line, pipe, token, place and worker
+unfoldable pub stepTexts : ℕ → ℕ → ℕ → ℕ → ℕ → List (List ℕ)
+stepTexts line pipe token place worker =
+    numberTexts line ++ (numberTexts pipe ++ (numberTexts token ++ (numberTexts place ++ lastTexts worker)))
+
+-- "each choice prints a line: `S l p t k` started, `F l p t k` finished, `X l` stopped, or `R n`", and "Events end with the worker
+-- number, also in program output" (02, 2.14)
 unfoldable pub answerTexts : Answer → List (List ℕ)
-answerTexts (Started line pipe token place) = (83 ∷ []) ∷ stepTexts line pipe token place
-answerTexts (Finished line pipe token place) = (70 ∷ []) ∷ stepTexts line pipe token place
-answerTexts (Stopped line) = (88 ∷ []) ∷ (numberTexts line ++ newline)
+answerTexts (Started line pipe token place worker) = (83 ∷ []) ∷ stepTexts line pipe token place worker
+answerTexts (Finished line pipe token place worker) = (70 ∷ []) ∷ stepTexts line pipe token place worker
+answerTexts (Stopped line worker) = stopTexts line worker
 answerTexts (Refused number) = refusalTexts number

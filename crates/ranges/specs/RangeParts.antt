@@ -7,10 +7,10 @@ use lib.ListN.{getD}
 use Rattle.rules.specs.Lists.{if, all, within, every, table}
 use Rattle.vocabulary.specs.declared.Slots.{Slots}
 use Rattle.rules.specs.RunState.{counterAt}
-use Rattle.rules.specs.Choices.{runningBelow}
+use Rattle.rules.specs.Choices.{atWork}
 use Rattle.rules.specs.Ranges.{slotSound}
 use Rattle.state.specs.declared.Figures.{Figures}
-use Rattle.ranges.specs.declared.slots.Tally.{Tally}
+use Rattle.ranges.specs.declared.slots.Found.{Found}
 
 -- a test holds of each number from one up to another
 unfoldable pub everyFrom : ℕ → ℕ → (ℕ → Bool) → Bool
@@ -56,6 +56,7 @@ pipeRow pipes = table 16 (λ p. if (ltb p pipes) 2 0)
 unfoldable pub flagRow : List Bool → List ℕ
 flagRow serial = table 16 (λ p. if (getD serial p false) 2 0)
 
--- what a walk over the slots finds: whether all are within their ranges, and how many lines run
-unfoldable pub tallyOf : Slots → ℕ → ℕ → ℕ → Tally
-tallyOf slots pipes lines tokens = record { sound = every 32 (slotSound pipes lines tokens slots); running = runningBelow slots 32 }
+-- what a walk over the slots finds: whether all are within their ranges, and whether a worker runs a line
+unfoldable pub foundOf : Slots → ℕ → ℕ → ℕ → ℕ → ℕ → Found
+foundOf slots pipes lines tokens workers worker =
+    record { sound = every 32 (slotSound pipes lines tokens workers slots); busy = atWork slots worker 32 }

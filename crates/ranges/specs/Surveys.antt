@@ -6,7 +6,7 @@ use lib.Dec.{ltb}
 use Rattle.rules.specs.Lists.{if, must, all, every}
 use Rattle.vocabulary.specs.declared.Slots.{Slots}
 use Rattle.rules.specs.RunState.{idle, slotAt}
-use Rattle.rules.specs.Choices.{runningBelow}
+use Rattle.rules.specs.Choices.{atWork}
 use Rattle.rules.specs.Ranges.{counterSound, sound}
 use Rattle.tables.specs.State as tables
 use Rattle.tables.specs.Calls.{memorySource}
@@ -28,13 +28,13 @@ restSound f counters mem =
 unfoldable pub near : ℕ → ℕ
 near line = if (ltb line 32) line 0
 
--- what is told of a state that is not sound: no line runs, and the chosen one is idle
+-- what is told of a state that is not sound: the chosen worker runs no line, and the chosen line is idle
 unfoldable pub spoiled : Survey
-spoiled = record { sound = false; running = 0; slot = idle }
+spoiled = record { sound = false; busy = false; slot = idle }
 
--- "14 if .. a number in state or memory is outside its range": whether none is, and then how many lines run and what the chosen
--- line does
-unfoldable pub surveyOf : Figures → List ℕ → Slots → List ℕ → ℕ → Survey
-surveyOf f counters slots mem line =
+-- "14 if .. a number in state or memory is outside its range": whether none is, and then whether the chosen worker runs a line and
+-- what the chosen line does
+unfoldable pub surveyOf : Figures → List ℕ → Slots → List ℕ → ℕ → ℕ → Survey
+surveyOf f counters slots mem worker line =
     must (sound memorySource (machineOf (whole f counters slots) mem)) spoiled
-    (record { sound = true; running = runningBelow slots (f .lines); slot = slotAt slots (near line) })
+    (record { sound = true; busy = atWork slots worker (f .lines); slot = slotAt slots (near line) })

@@ -16,15 +16,16 @@ use vocabulary::Place;
 use vocabulary::Slot;
 use vocabulary::Slots;
 use vocabulary::Token;
+use vocabulary::Worker;
 ghost use mathlib.Core.Path.{_≡_};
 ghost use Prim.Native.Nat.{_<_};
 ghost use Rattle.ranges.specs.RangeParts.{figuresSound};
 ghost use Rattle.ranges.specs.Surveys.{restSound, near as nearOf, spoiled, surveyOf};
 
-// What a look over the state tells: whether it is sound, and if so how many lines run and what the chosen line does.
+// What a look over the state tells: whether it is sound, and if so whether the chosen worker runs a line and what the chosen line does.
 pub struct Survey {
     pub sound: bool,
-    pub running: u16,
+    pub busy: bool,
     pub slot: Slot,
 }
 
@@ -97,22 +98,30 @@ fn unsound() -> Survey
         running: false,
         token: Token(0),
         place: Place(0),
+        worker: Worker(0),
     };
     Survey {
         sound: false,
-        running: 0,
+        busy: false,
         slot,
     }
 }
 
 // Every number of the state, and of the tables and their memory.
-pub fn look_over(f: Figures, slots: Slots, counters: &[u8; 512], mem: &[u16], line: u16) -> Survey
-    ensures { λ r. ⌜ r ≡ surveyOf f (now (counters .entry)) slots (now (mem .entry)) line ⌝ }
+pub fn look_over(
+    f: Figures,
+    slots: Slots,
+    counters: &[u8; 512],
+    mem: &[u16],
+    worker: u16,
+    line: u16,
+) -> Survey
+    ensures { λ r. ⌜ r ≡ surveyOf f (now (counters .entry)) slots (now (mem .entry)) worker line ⌝ }
 {
     if !rest_sound(f, counters, mem) {
         return unsound();
     }
-    let found = slots::walk(slots, f.lines, f.pipes, f.tables.tokens);
+    let found = slots::walk(slots, f.lines, f.pipes, f.tables.tokens, f.workers, worker);
     if !found.sound {
         return unsound();
     }
@@ -122,10 +131,11 @@ pub fn look_over(f: Figures, slots: Slots, counters: &[u8; 512], mem: &[u16], li
         running: slots.running[l],
         token: slots.token[l],
         place: slots.place[l],
+        worker: slots.worker[l],
     };
     Survey {
         sound: true,
-        running: found.running,
+        busy: found.busy,
         slot,
     }
 }

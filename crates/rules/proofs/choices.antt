@@ -9,5 +9,7 @@ pub mod Steps
 pub mod Opening
 -- lists of answers;
 pub mod Answers
--- a run as a trace of its moves.
+-- a run as a trace of its moves;
 pub mod Trace
+-- the worker that goes with a line.
+pub mod Workers

@@ -11,7 +11,10 @@ pub mod Count
 pub mod Final
 -- each place once at each pipe;
 pub mod Marks
--- the one-worker run;
+-- the one-worker run, and lines listed alone where there is one worker;
 pub mod OneWorker
+pub mod LinesAlone
+-- no worker runs two lines;
+pub mod OneLineEach
 -- the theorem: all of `WholeRun`.
 pub mod WholeRuns

@@ -4,9 +4,9 @@ use Rattle.vocabulary.specs.Refusals.{numberOf}
 use Rattle.vocabulary.specs.declared.answer.Answer.{Answer}
 use Rattle.vocabulary.specs.declared.answer.Answer.the-variants.{Started, Finished, Stopped, Refused}
 
--- line, pipe, token and place; the line; or the refusal's number
+-- line, pipe, token, place and worker; line and worker; or the refusal's number
 unfoldable pub answerOf : Answer → paper.Answer
-answerOf (Started s) = paper.Started (s .line .0) (s .pipe .0) (s .token .0) (s .place .0)
-answerOf (Finished s) = paper.Finished (s .line .0) (s .pipe .0) (s .token .0) (s .place .0)
-answerOf (Stopped l) = paper.Stopped (l .0)
+answerOf (Started s) = paper.Started (s .line .0) (s .pipe .0) (s .token .0) (s .place .0) (s .worker .0)
+answerOf (Finished s) = paper.Finished (s .line .0) (s .pipe .0) (s .token .0) (s .place .0) (s .worker .0)
+answerOf (Stopped s) = paper.Stopped (s .line .0) (s .worker .0)
 answerOf (Refused r) = paper.Refused (numberOf r)

@@ -11,12 +11,23 @@ use Rattle.rules.specs.Ranges.{sound}
 use Rattle.vocabulary.specs.declared.Slot.{Slot}
 use Rattle.vocabulary.specs.declared.Slots.{Slots}
 
--- "An accepted choice returns Started or Finished with line, pipe, token, place, or Stopped with line";
--- any other returns the number of the first rule broken
+-- "A choice is a worker and a line" (02, 2.14)
+pub record Choice : Type 0 where
+  pub worker : ℕ
+  pub line : ℕ
+
+-- the choices of some input bytes: "A choice is a worker and a line, two input bytes in that order (a lone last byte is ignored)"
+unfoldable pub choicesIn : List ℕ → List Choice
+choicesIn [] = []
+choicesIn (w ∷ []) = []
+choicesIn (w ∷ (l ∷ rest)) = record { worker = w; line = l } ∷ choicesIn rest
+
+-- "An accepted choice returns Started or Finished with line, pipe, token, place, or Stopped with line", and "Events end with
+-- the worker number" (2.14); any other returns the number of the first rule broken
 pub data Answer : Type 0 where
-  Started : ℕ → ℕ → ℕ → ℕ → Answer
-  Finished : ℕ → ℕ → ℕ → ℕ → Answer
-  Stopped : ℕ → Answer
+  Started : ℕ → ℕ → ℕ → ℕ → ℕ → Answer
+  Finished : ℕ → ℕ → ℕ → ℕ → ℕ → Answer
+  Stopped : ℕ → ℕ → Answer
   Refused : ℕ → Answer
 
 -- what a choice returns and leaves
@@ -48,7 +59,7 @@ withPlace m counters slots placed stopped source =
 abbrev pub next : ℕ → ℕ → ℕ
 next n i = if (eqb (suc i) n) 0 (suc i)
 
--- "the line waits there", at pipe (p + 1) mod P; at pipe 0 it holds no token
+-- "the line waits there", at pipe (p + 1) mod P, and has no worker; at pipe 0 it holds no token
 abbrev pub moved : ℕ → Slot → Slot
 moved pipes s =
     if (eqb (suc (s .pipe .0)) pipes) idle
@@ -62,10 +73,14 @@ fall c i = set c i (getD c i 0 - 1)
 abbrev pub filled : {X : Type 0} → Machine X → ℕ → ℕ → List ℕ
 filled m l p = set (m .counters) (counterAt l p) (full (isSerial m p))
 
--- how many of the lines below `n` run
-unfoldable pub runningBelow : Slots → ℕ → ℕ
-runningBelow s zero = 0
-runningBelow s (suc n) = if (slotAt s n .running) 1 0 + runningBelow s n
+-- whether a worker runs the line of a slot
+abbrev pub runBy : ℕ → Slot → Bool
+runBy w s = must (s .running) false (eqb (s .worker .0) w)
+
+-- whether a worker runs one of the lines below `n`; one that runs none is idle
+unfoldable pub atWork : Slots → ℕ → ℕ → Bool
+atWork s w zero = false
+atWork s w (suc n) = if (runBy w (slotAt s n)) true (atWork s w n)
 
 -- whether one of the lines below `n` runs, or waits with counter 0
 unfoldable pub movable : {X : Type 0} → Machine X → ℕ → Bool
@@ -80,38 +95,38 @@ unfoldable pub ended : {X : Type 0} → Machine X → Bool
 ended m = must (m .stopped) false (not (movable m (m .lines)))
 
 module _ {X : Type 0} (S : Source X) where
-  -- a start at pipe 0, with what the source gives: "a token is taken; if there is none, the line stops (it still counts
+  -- a worker's start at pipe 0, with what the source gives: "a token is taken; if there is none, the line stops (it still counts
   -- as waiting there), the run is marked stopped and the counter stays full"; 14 if no place is left for the token
-  unfoldable pub startFirst : Machine X → ℕ → Taken X → Chosen X
-  startFirst m l Spoiled = refuse m 14
-  startFirst m l (Nothing x) =
+  unfoldable pub startFirst : Machine X → ℕ → ℕ → Taken X → Chosen X
+  startFirst m w l Spoiled = refuse m 14
+  startFirst m w l (Nothing x) =
       record {
-        answer = Stopped l;
+        answer = Stopped l w;
         machine = withPlace m (filled m l 0) (m .slots) (m .placed) true x;
       }
-  startFirst m l (Took t x) =
+  startFirst m w l (Took t x) =
       must (ltb (m .placed) (m .tokens)) (refuse m 14)
       (record {
-        answer = Started l 0 t (m .placed);
+        answer = Started l 0 t (m .placed) w;
         machine = withPlace m (filled m l 0)
-            (putSlot (m .slots) l (runs 0 t (m .placed))) (suc (m .placed)) (m .stopped) x;
+            (putSlot (m .slots) l (runs 0 t (m .placed) w)) (suc (m .placed)) (m .stopped) x;
       })
 
   -- a start at a later pipe, with the token and place that the line holds
-  unfoldable pub startLater : Machine X → ℕ → Slot → Chosen X
-  startLater m l s =
+  unfoldable pub startLater : Machine X → ℕ → ℕ → Slot → Chosen X
+  startLater m w l s =
       record {
-        answer = Started l (s .pipe .0) (s .token .0) (s .place .0);
+        answer = Started l (s .pipe .0) (s .token .0) (s .place .0) w;
         machine = withPlace m (filled m l (s .pipe .0))
-            (putSlot (m .slots) l (runs (s .pipe .0) (s .token .0) (s .place .0))) (m .placed) (m .stopped) (m .source);
+            (putSlot (m .slots) l (runs (s .pipe .0) (s .token .0) (s .place .0) w)) (m .placed) (m .stopped) (m .source);
       }
 
-  -- "Waiting with counter 0: start."
-  unfoldable pub start : Machine X → ℕ → Chosen X
-  start m l =
+  -- "Waiting with counter 0: start." The line is then the worker's.
+  unfoldable pub start : Machine X → ℕ → ℕ → Chosen X
+  start m w l =
       let s : Slot = slotOf m l in
-      let first : Chosen X = startFirst m l (S .take (m .source)) in
-      if (eqb (s .pipe .0) 0) first (startLater m l s)
+      let first : Chosen X = startFirst m w l (S .take (m .source)) in
+      if (eqb (s .pipe .0) 0) first (startLater m w l s)
 
   -- "Then that of this line at pipe (p + 1) mod P falls by one, and the line waits there"; 14 if it is 0
   unfoldable pub settle : Machine X → ℕ → Slot → List ℕ → X → Chosen X
@@ -119,7 +134,7 @@ module _ {X : Type 0} (S : Source X) where
       let i : ℕ = counterAt l (next (m .pipes) (s .pipe .0)) in
       mustNot (eqb (getD c i 0) 0) (refuse m 14)
       (record {
-        answer = Finished l (s .pipe .0) (s .token .0) (s .place .0);
+        answer = Finished l (s .pipe .0) (s .token .0) (s .place .0) (s .worker .0);
         machine = withPlace m (fall c i) (putSlot (m .slots) l (moved (m .pipes) s)) (m .placed) (m .stopped) x;
       })
 
@@ -144,31 +159,40 @@ module _ {X : Type 0} (S : Source X) where
       let first : Chosen X = finishFirst m l s (S .release (s .token .0) (m .source)) in
       if (eqb (s .pipe .0) 0) first (finishWith m l s (m .source))
 
-  -- a running line finishes; a waiting one starts: 12 if its counter is above 0, 13 if W or more lines run
-  unfoldable pub move : Machine X → ℕ → Chosen X
-  move m l =
+  -- a running line finishes, which "must be by that worker": 26 if another is named. A waiting one starts: 12 if its counter is
+  -- above 0; "A start needs the named worker idle, .. so 13 now means the named worker runs another line; a stop too" (2.14)
+  unfoldable pub move : Machine X → ℕ → ℕ → Chosen X
+  move m w l =
       let s : Slot = slotOf m l in
-      if (s .running) (finish m l)
+      if (s .running)
+      (must (eqb (s .worker .0) w) (refuse m 26)
+      (finish m l))
       (must (eqb (counterOf m l (s .pipe .0)) 0) (refuse m 12)
-      (must (ltb (runningBelow (m .slots) (m .lines)) (m .workers)) (refuse m 13)
-      (start m l)))
+      (mustNot (atWork (m .slots) w (m .lines)) (refuse m 13)
+      (start m w l)))
 
-  -- "For a choice: 14 if .. a number in state or memory is outside its range, then 10 to 13, then 14"
-  unfoldable pub choose : Machine X → ℕ → Chosen X
-  choose m l =
+  -- "For a choice: 14 if .. a number in state or memory is outside its range, then 10 to 13, then 14", and "26 after 10 for a
+  -- worker number of W or more" (2.14)
+  unfoldable pub choose : Machine X → ℕ → ℕ → Chosen X
+  choose m w l =
       must (sound S m) (refuse m 14)
       (must (ltb l (m .lines)) (refuse m 10)
+      (must (ltb w (m .workers)) (refuse m 26)
       (mustNot (ended m) (refuse m 11)
-      (move m l)))
+      (move m w l))))
+
+  -- a choice as a pair
+  abbrev pub chooseBy : Machine X → Choice → Chosen X
+  chooseBy m c = choose m (c .worker) (c .line)
 
   -- what a list of choices answers, and the run that it leaves: each is given what the one before left
-  unfoldable pub answers : Machine X → List ℕ → List Answer
+  unfoldable pub answers : Machine X → List Choice → List Answer
   answers m [] = []
-  answers m (l ∷ ls) = choose m l .answer ∷ answers (choose m l .machine) ls
+  answers m (c ∷ cs) = chooseBy m c .answer ∷ answers (chooseBy m c .machine) cs
 
-  unfoldable pub follow : Machine X → List ℕ → Machine X
+  unfoldable pub follow : Machine X → List Choice → Machine X
   follow m [] = m
-  follow m (l ∷ ls) = follow (choose m l .machine) ls
+  follow m (c ∷ cs) = follow (chooseBy m c .machine) cs
 
 -- "At opening: line 0 pipe 0 has 0; pipe 0 of other lines 1; other pipes of line 0 have 1; the rest are full."
 unfoldable pub openedCounter : ℕ → ℕ → Bool → ℕ

@@ -7,6 +7,7 @@ pub mod Sources
 pub mod RunState
 pub mod Ranges
 pub mod Choices
+pub mod Workers
 pub mod Answers
 -- "The plain sheet and whole runs";
 pub mod PlainSheet

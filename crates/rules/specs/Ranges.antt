@@ -21,11 +21,16 @@ isLoaded pipes tokens s =
     if (s .running) true (ltb 0 (s .pipe .0)) ∷
     ltb (s .pipe .0) pipes ∷ ltb (s .token .0) tokens ∷ ltb (s .place .0) tokens ∷ [])
 
--- a slot is idle, or else of a line of the plan, and loaded
-unfoldable pub slotSound : ℕ → ℕ → ℕ → Slots → ℕ → Bool
-slotSound pipes lines tokens slots l =
-    if (isIdle (slotAt slots l)) true
-    (all (ltb l lines ∷ isLoaded pipes tokens (slotAt slots l) ∷ []))
+-- the worker of a line that runs is below W; that of one that does not is 0
+unfoldable pub workerSound : ℕ → Slot → Bool
+workerSound workers s = if (s .running) (ltb (s .worker .0) workers) (eqb (s .worker .0) 0)
+
+-- a slot is idle, or else of a line of the plan, and loaded; and its worker is in range
+unfoldable pub slotSound : ℕ → ℕ → ℕ → ℕ → Slots → ℕ → Bool
+slotSound pipes lines tokens workers slots l =
+    must (workerSound workers (slotAt slots l)) false
+    (if (isIdle (slotAt slots l)) true
+    (all (ltb l lines ∷ isLoaded pipes tokens (slotAt slots l) ∷ [])))
 
 -- the most that a counter may be: its full value; "unused ones are 0"
 unfoldable pub mostAt : ℕ → ℕ → List Bool → ℕ → ℕ → ℕ
@@ -55,6 +60,6 @@ module _ {X : Type 0} (S : Source X) where
       all (
       numbersSound m ∷
       every 16 (serialSound (m .pipes) (m .serial)) ∷
-      every 32 (slotSound (m .pipes) (m .lines) (m .tokens) (m .slots)) ∷
+      every 32 (slotSound (m .pipes) (m .lines) (m .tokens) (m .workers) (m .slots)) ∷
       every 512 (counterSound (m .pipes) (m .lines) (m .serial) (m .counters)) ∷
       S .sound (m .source) ∷ [])

@@ -28,17 +28,29 @@ pub record Machine (X : Type 0) : Type 0 where
   pub stopped : Bool
   pub source : X
 
+-- a line that waits at a pipe, with its token and place: it has no worker, which is written 0
+abbrev pub waits : ℕ → ℕ → ℕ → Slot
+waits p t k = record {
+  pipe = record { 0 = p };
+  running = false;
+  token = record { 0 = t };
+  place = record { 0 = k };
+  worker = record { 0 = 0 };
+}
+
 -- a line that waits at pipe 0: it holds no token
 abbrev pub idle : Slot
-idle = record { pipe = record { 0 = 0 }; running = false; token = record { 0 = 0 }; place = record { 0 = 0 } }
+idle = waits 0 0 0
 
--- a line that runs a pipe, with its token and place
-abbrev pub runs : ℕ → ℕ → ℕ → Slot
-runs p t k = record { pipe = record { 0 = p }; running = true; token = record { 0 = t }; place = record { 0 = k } }
-
--- a line that waits at a pipe, with its token and place
-abbrev pub waits : ℕ → ℕ → ℕ → Slot
-waits p t k = record { pipe = record { 0 = p }; running = false; token = record { 0 = t }; place = record { 0 = k } }
+-- a line that runs a pipe, with its token and place, by a worker
+abbrev pub runs : ℕ → ℕ → ℕ → ℕ → Slot
+runs p t k w = record {
+  pipe = record { 0 = p };
+  running = true;
+  token = record { 0 = t };
+  place = record { 0 = k };
+  worker = record { 0 = w };
+}
 
 -- what a line does, by the rows of all; and the rows with what one line does put anew
 unfoldable pub slotAt : Slots → ℕ → Slot
@@ -47,6 +59,7 @@ slotAt s l = record {
   running = getD (s .running) l (idle .running);
   token = getD (s .token) l (idle .token);
   place = getD (s .place) l (idle .place);
+  worker = getD (s .worker) l (idle .worker);
 }
 
 unfoldable pub putSlot : Slots → ℕ → Slot → Slots
@@ -55,6 +68,7 @@ putSlot s l v = record {
   running = set (s .running) l (v .running);
   token = set (s .token) l (v .token);
   place = set (s .place) l (v .place);
+  worker = set (s .worker) l (v .worker);
 }
 
 -- "Each line waits at pipe 0."
@@ -64,6 +78,7 @@ allIdle = record {
   running = replicate 32 (idle .running);
   token = replicate 32 (idle .token);
   place = replicate 32 (idle .place);
+  worker = replicate 32 (idle .worker);
 }
 
 -- "There is a counter for each line and pipe", of 512 (32 × 16)

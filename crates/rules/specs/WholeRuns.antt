@@ -1,4 +1,5 @@
 -- Whole runs (01, "The plain sheet and whole runs"): what is said of a list of choices, over any source of tokens.
+-- "demand 3 reads events without the worker" (02, 2.14): no definition here looks at an event's last number.
 use mathlib.Core.Path.{_≡_}
 use mathlib.Core.Logic.{_↔_}
 use mathlib.Core.Bool.{Bool, true, false}
@@ -9,7 +10,8 @@ use lib.ListN.{length, getD, replicate}
 use Rattle.rules.specs.Lists.{if, all, samePair, Every}
 use Rattle.rules.specs.Sources.{Source, Writes}
 use Rattle.rules.specs.RunState.{Pipeline, Machine, allIdle, full}
-use Rattle.rules.specs.Choices.{Answer, Started, Finished, Stopped, Refused, tabled, opened, choose, answers, follow, ended}
+use Rattle.rules.specs.Choices.{Choice, Answer, Started, Finished, Stopped, Refused, tabled, opened, chooseBy, answers, follow, ended}
+use Rattle.rules.specs.Workers.{OneLineEach}
 use Rattle.rules.specs.PlainSheet.{Row, rows}
 
 -- a plan within its ranges, whose first pipe is serial; what is no pipe of it is not serial
@@ -76,9 +78,9 @@ withWorkers workers m =
 -- "The order of a run is that of its Started events at pipe 0."
 unfoldable pub ordered : List Answer → List Row
 ordered [] = []
-ordered (Started l p t k ∷ rest) = if (eqb p 0) (record { token = t; place = k; line = l } ∷ ordered rest) (ordered rest)
-ordered (Finished l p t k ∷ rest) = ordered rest
-ordered (Stopped l ∷ rest) = ordered rest
+ordered (Started l p t k w ∷ rest) = if (eqb p 0) (record { token = t; place = k; line = l } ∷ ordered rest) (ordered rest)
+ordered (Finished l p t k w ∷ rest) = ordered rest
+ordered (Stopped l w ∷ rest) = ordered rest
 ordered (Refused n ∷ rest) = ordered rest
 
 -- an answer that is no refusal
@@ -88,9 +90,9 @@ Accepted a = (n : ℕ) → a ≡ Refused n → ⊥
 -- how many of the choices were accepted
 unfoldable pub accepted : List Answer → ℕ
 accepted [] = 0
-accepted (Started l p t k ∷ rest) = suc (accepted rest)
-accepted (Finished l p t k ∷ rest) = suc (accepted rest)
-accepted (Stopped l ∷ rest) = suc (accepted rest)
+accepted (Started l p t k w ∷ rest) = suc (accepted rest)
+accepted (Finished l p t k w ∷ rest) = suc (accepted rest)
+accepted (Stopped l w ∷ rest) = suc (accepted rest)
 accepted (Refused n ∷ rest) = accepted rest
 
 -- the last answer of a list, or another where it is empty
@@ -101,17 +103,17 @@ lastOf a (b ∷ rest) = lastOf b rest
 -- how many Started events there are of a place at a pipe
 unfoldable pub startsOf : ℕ → ℕ → List Answer → ℕ
 startsOf p k [] = 0
-startsOf p k (Started l q t i ∷ rest) = samePair p k q i + startsOf p k rest
-startsOf p k (Finished l q t i ∷ rest) = startsOf p k rest
-startsOf p k (Stopped l ∷ rest) = startsOf p k rest
+startsOf p k (Started l q t i w ∷ rest) = samePair p k q i + startsOf p k rest
+startsOf p k (Finished l q t i w ∷ rest) = startsOf p k rest
+startsOf p k (Stopped l w ∷ rest) = startsOf p k rest
 startsOf p k (Refused n ∷ rest) = startsOf p k rest
 
 -- how many Finished events there are of a place at a pipe
 unfoldable pub finishesOf : ℕ → ℕ → List Answer → ℕ
 finishesOf p k [] = 0
-finishesOf p k (Started l q t i ∷ rest) = finishesOf p k rest
-finishesOf p k (Finished l q t i ∷ rest) = samePair p k q i + finishesOf p k rest
-finishesOf p k (Stopped l ∷ rest) = finishesOf p k rest
+finishesOf p k (Started l q t i w ∷ rest) = finishesOf p k rest
+finishesOf p k (Finished l q t i w ∷ rest) = samePair p k q i + finishesOf p k rest
+finishesOf p k (Stopped l w ∷ rest) = finishesOf p k rest
 finishesOf p k (Refused n ∷ rest) = finishesOf p k rest
 
 -- an event's numbers are those of the sheet: a pipe of the plan, and a place with its token and line
@@ -123,24 +125,28 @@ pub record OnSheet (plan : Pipeline) (order : List ℕ) (l p t k : ℕ) : Type 0
 
 -- "Each Started or Finished carries the sheet's place and line for its token"; the line that stops is the one after the last
 abbrev pub Carries : Pipeline → List ℕ → Answer → Type 0
-Carries plan order (Started l p t k) = OnSheet plan order l p t k
-Carries plan order (Finished l p t k) = OnSheet plan order l p t k
-Carries plan order (Stopped l) = l ≡ length order % plan .lines
+Carries plan order (Started l p t k w) = OnSheet plan order l p t k
+Carries plan order (Finished l p t k w) = OnSheet plan order l p t k
+Carries plan order (Stopped l w) = l ≡ length order % plan .lines
 Carries plan order (Refused n) = Unit {0}
+
+-- a choice of the one worker that there is for W = 1, worker 0
+abbrev pub byOne : ℕ → Choice
+byOne l = record { worker = 0; line = l }
 
 -- "Its one worker names line k mod L 2·P times in a row, for each k from 0 to M − 1, then line M mod L once":
 -- its choices from place k on, for so many places
-unfoldable pub oneWorker : Pipeline → ℕ → ℕ → List ℕ
-oneWorker plan k zero = (k % plan .lines) ∷ []
-oneWorker plan k (suc places) = replicate (2 * plan .pipes) (k % plan .lines) ++ oneWorker plan (suc k) places
+unfoldable pub oneWorker : Pipeline → ℕ → ℕ → List Choice
+oneWorker plan k zero = byOne (k % plan .lines) ∷ []
+oneWorker plan k (suc places) = replicate (2 * plan .pipes) (byOne (k % plan .lines)) ++ oneWorker plan (suc k) places
 
-module _ {X : Type 0} (S : Source X) (plan : Pipeline) (workers : ℕ) (x : X) (ls : List ℕ) where
-  -- the answers of a run with the choices ls, and the run that it leaves
+module _ {X : Type 0} (S : Source X) (plan : Pipeline) (workers : ℕ) (x : X) (cs : List Choice) where
+  -- the answers of a run with the choices cs, and the run that it leaves
   abbrev pub events : List Answer
-  events = answers S (opened plan workers x) ls
+  events = answers S (opened plan workers x) cs
 
   abbrev pub end : Machine X
-  end = follow S (opened plan workers x) ls
+  end = follow S (opened plan workers x) cs
 
   -- what holds of the whole list of choices, where the source writes this order and closes at z (demand 3)
   pub record WholeRun (order : List ℕ) (z : X) : Type 0 where
@@ -157,9 +163,11 @@ module _ {X : Type 0} (S : Source X) (plan : Pipeline) (workers : ℕ) (x : X) (
     pub at-most-once : (p k : ℕ) → p < plan .pipes → k < length order → (startsOf p k events ≤ 1) × (finishesOf p k events ≤ 1)
     pub each-once : ended end ≡ true → (p k : ℕ) → p < plan .pipes → k < length order → (startsOf p k events ≡ 1) × (finishesOf p k events ≡ 1)
     -- "At a serial pipe a token starts after the one before it on the sheet has finished there"
-    pub in-turn : (before after : List Answer) (l p t k : ℕ) → events ≡ before ++ (Started l p t k ∷ after) →
+    pub in-turn : (before after : List Answer) (l p t k w : ℕ) → events ≡ before ++ (Started l p t k w ∷ after) →
         getD (plan .serial) p false ≡ true → (j : ℕ) → j < k → finishesOf p j before ≡ 1
     -- "no run gets 14"
     pub never-spoiled : Every (λ a. a ≡ Refused 14 → ⊥) events
     -- "before its end every run has an allowed choice"
-    pub goes-on : ended end ≡ false → (l : ℕ) × (l < plan .lines) × Accepted (choose S end l .answer)
+    pub goes-on : ended end ≡ false → (c : Choice) × (c .worker < workers) × (c .line < plan .lines) × Accepted (chooseBy S end c .answer)
+    -- no worker runs two lines at a time: "A start needs the named worker idle" (2.14)
+    pub one-line-each : OneLineEach (end .slots) (plan .lines)

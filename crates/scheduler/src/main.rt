@@ -1,4 +1,5 @@
-// The program of document 01: it reads plan.bin, then W and the choices from standard input, and prints a line for each choice.
+// The program of document 01: it reads plan.bin, then W and the choices from standard input, two bytes each, and prints a line for each
+// choice.
 use libc::STDIN_FILENO;
 use printing::Sink;
 use session::Session;
@@ -9,7 +10,7 @@ struct Turn {
     session: Session,
 }
 
-// Reads some of the input and makes its choices.
+// Reads some of the input and makes its choices. A reading is full unless the input ends, and its size is even: so it parts no choice.
 fn feed_some(session: Session, mem: &mut [u16], out: &mut [u8]) -> Turn {
     let mut input = io::large_buffer();
     let got = io::read_full(STDIN_FILENO, &mut input);
@@ -43,15 +44,14 @@ fn feed_rest(session: Session, mem: &mut [u16], out: &mut [u8]) -> Session {
     now
 }
 
-// The run of a plan, whose first choices have been read.
-fn serve(file: &[u8], workers: u8, choices: &[u8]) {
+// The run of a plan, whose W has been read.
+fn serve(file: &[u8], workers: u8) {
     let mut mem = [0u16; 32768];
     let mut out = io::large_buffer();
     let begun = session::begin(file, workers, &mut mem, Sink::written(), &mut out);
     let started = begun.session;
     if begun.accepted {
-        let fed = feeding::feed(started, choices, &mut mem, &mut out);
-        let done = feed_rest(fed, &mut mem, &mut out);
+        let done = feed_rest(started, &mut mem, &mut out);
         let last = session::close(done, &mut out);
         last.flush(&out);
     } else {
@@ -62,13 +62,13 @@ fn serve(file: &[u8], workers: u8, choices: &[u8]) {
 
 // The first byte of the input is W; an absent one reads as 0.
 fn run(file: &[u8]) {
-    let mut input = io::large_buffer();
-    let got = io::read_full(STDIN_FILENO, &mut input);
+    let mut first = [0u8; 1];
+    let got = io::read_full(STDIN_FILENO, &mut first);
     if got == 0 {
-        serve(file, 0, b"");
+        serve(file, 0);
     } else {
-        let workers = input[0];
-        serve(file, workers, &input[1..got]);
+        let workers = first[0];
+        serve(file, workers);
     }
 }
 

@@ -10,7 +10,7 @@ use Rattle.state.specs.declared.Figures.{Figures}
 
 -- what its lines do
 abbrev pub slotsOf : State → Slots
-slotsOf s = record { at = s .at; running = s .running; token = s .token; place = s .place }
+slotsOf s = record { at = s .at; running = s .running; token = s .token; place = s .place; worker = s .worker }
 
 -- the machine of a state and its memory
 unfoldable pub machineOf : State → List ℕ → Machine tables.State
@@ -40,6 +40,7 @@ whole f counters slots = record {
   running = slots .running;
   token = slots .token;
   place = slots .place;
+  worker = slots .worker;
   placed = f .placed;
   stopped = f .stopped;
   tables = f .tables;

@@ -16,6 +16,7 @@ use vocabulary::Pipe;
 use vocabulary::Place;
 use vocabulary::Slots;
 use vocabulary::Token;
+use vocabulary::Worker;
 ghost use mathlib.Core.Path.{_≡_};
 ghost use mathlib.Core.Bool.{true};
 ghost use mathlib.Core.List.{List};
@@ -28,7 +29,7 @@ ghost use Rattle.state.specs.Ending.{endedOf};
 
 // The state of a run: P, L, W, how many tokens have a place, whether the run is marked stopped, the numbers of the token tables,
 // N among them, which pipes are serial, the join counters (16 to a line), and what each line does: its pipe, whether it runs, its
-// token and its place. (The large arrays come last: a state is copied at each choice, and they are then copied by themselves.)
+// token, its place and its worker. (The large arrays come last: a state is copied at each choice, and they are then copied by themselves.)
 pub struct State {
     pub pipes: u16,
     pub lines: u16,
@@ -42,6 +43,7 @@ pub struct State {
     pub running: [bool; 32],
     pub token: [Token; 32],
     pub place: [Place; 32],
+    pub worker: [Worker; 32],
 }
 
 // The state but for its counters and slots.
@@ -64,11 +66,13 @@ pub fn ended(s: State) -> bool
     let running = s.running;
     let token = s.token;
     let place = s.place;
+    let worker = s.worker;
     let slots = Slots {
         at,
         running,
         token,
         place,
+        worker,
     };
     is_over(s.stopped, s.lines, slots, &s.counters)
 }

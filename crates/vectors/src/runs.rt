@@ -7,8 +7,9 @@ use crate::stored;
 use printing::Sink;
 use session::Session;
 
-// Choices made from a seed: so many, each below a modulus.
+// Choices made from a seed, of so many workers: so many, each of a line below a modulus.
 struct Made {
+    workers: u8,
     count: u64,
     seed: u64,
     modulus: u64,
@@ -19,8 +20,8 @@ fn next_seed(seed: u64) -> u64 {
     ((seed % 4294967296) * 1664525 + 1013904223) % 4294967296
 }
 
-// The choice that a seed makes.
-fn choice_of(seed: u64, modulus: u64) -> u8 {
+// The line that a seed names.
+fn line_of(seed: u64, modulus: u64) -> u8 {
     let m = modulus % 257;
     if m == 0 {
         return 0;
@@ -29,15 +30,34 @@ fn choice_of(seed: u64, modulus: u64) -> u8 {
     (c % 256) as u8
 }
 
+fn wide(x: u8) -> u64 {
+    x as u64
+}
+
+// The worker that it names: the line's number mod W; and one time in 16 a number that no worker has.
+fn worker_of(seed: u64, workers: u8, line: u8) -> u8 {
+    let w = wide(workers);
+    let l = wide(line);
+    if seed / 268435456 == 0 {
+        return ((w % 256 + l % 256) % 256) as u8;
+    }
+    if w == 0 {
+        return 0;
+    }
+    (l % w % 256) as u8
+}
+
 // Feeds the stored choices, and then those that are made.
 fn feed(session: Session, choices: &[u8], made: Made, mem: &mut [u16], out: &mut [u8]) -> Session {
     let mut now = feeding::feed(session, choices, mem, out);
     let mut seed = made.seed;
     let modulus = made.modulus;
+    let workers = made.workers;
     let mut left = made.count;
     while left > 0 {
         seed = next_seed(seed);
-        now = feeding::choose(now, choice_of(seed, modulus), mem, out);
+        let line = line_of(seed, modulus);
+        now = feeding::choose(now, worker_of(seed, workers, line), line, mem, out);
         left -= 1;
     }
     now
@@ -56,9 +76,9 @@ fn serve(file: &[u8], workers: u8, choices: &[u8], made: Made, sink: Sink, out: 
 }
 
 // The digest of a run whose choices are made.
-fn digest(file: &[u8], workers: u8, made: Made) -> Sink {
+fn digest(file: &[u8], made: Made) -> Sink {
     let mut out = io::large_buffer();
-    let done = serve(file, workers, b"", made, Sink::digested(), &mut out);
+    let done = serve(file, made.workers, b"", made, Sink::digested(), &mut out);
     done.flush(&out)
 }
 
@@ -78,6 +98,7 @@ fn stored_run(fd: i32, file: &[u8], sink: Sink, out: &mut [u8]) -> Sink {
     let size = stored::four_bytes(fd);
     let end = end_of(stored::bytes(fd, size.value, &mut input));
     let none = Made {
+        workers: 0,
         count: 0,
         seed: 0,
         modulus: 0,
@@ -99,11 +120,12 @@ fn made_run(fd: i32, file: &[u8], sink: Sink, out: &mut [u8]) -> Sink {
     let seed = stored::four_bytes(fd);
     let modulus = stored::two_bytes(fd);
     let made = Made {
+        workers: (workers.value % 256) as u8,
         count: count.value,
         seed: seed.value,
         modulus: modulus.value,
     };
-    let done = digest(file, (workers.value % 256) as u8, made);
+    let done = digest(file, made);
     let numbers = [done.lines, done.sum];
     lines::put_line(sink, out, b"#", &numbers)
 }

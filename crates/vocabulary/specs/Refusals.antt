@@ -2,9 +2,9 @@
 use Prim.Native.Nat.{ℕ}
 use Rattle.vocabulary.specs.declared.refusal.Refusal.{Refusal}
 use Rattle.vocabulary.specs.declared.refusal.Refusal.the-variants.{FileSize, PartSizes, Limits, Pipes, RecordLayout, ListsItself, TotalCount}
-use Rattle.vocabulary.specs.declared.refusal.Refusal.the-variants.{Workers, Memory, NoLine, Ended, Early, Crowded, Spoiled}
+use Rattle.vocabulary.specs.declared.refusal.Refusal.the-variants.{Workers, Memory, NoLine, Ended, Early, WorkerBusy, Spoiled, WrongWorker}
 
--- column "Returned" of the table
+-- column "Returned" of the table; 13 and 26 as request 2.14 has them
 abbrev pub numberOf : Refusal → ℕ
 numberOf FileSize = 1
 numberOf PartSizes = 2
@@ -18,5 +18,6 @@ numberOf Memory = 9
 numberOf NoLine = 10
 numberOf Ended = 11
 numberOf Early = 12
-numberOf Crowded = 13
+numberOf WorkerBusy = 13
 numberOf Spoiled = 14
+numberOf WrongWorker = 26

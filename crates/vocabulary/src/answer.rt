@@ -4,18 +4,26 @@ use crate::Pipe;
 use crate::Place;
 use crate::Refusal;
 use crate::Token;
+use crate::Worker;
 
-// A start or a finish: which line, at which pipe, with which token and place.
+// A start or a finish: which line, at which pipe, with which token and place, and by which worker.
 pub struct Step {
     pub line: Line,
     pub pipe: Pipe,
     pub token: Token,
     pub place: Place,
+    pub worker: Worker,
+}
+
+// A stop: which line, and by which worker.
+pub struct Stop {
+    pub line: Line,
+    pub worker: Worker,
 }
 
 pub enum Answer {
     Started(Step),
     Finished(Step),
-    Stopped(Line),
+    Stopped(Stop),
     Refused(Refusal),
 }

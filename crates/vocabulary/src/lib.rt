@@ -5,6 +5,7 @@ mod refusal;
 
 pub use answer::Answer;
 pub use answer::Step;
+pub use answer::Stop;
 pub use pipe_kind::PipeByte;
 pub use pipe_kind::PipeKind;
 pub use refusal::Refusal;
@@ -21,12 +22,17 @@ pub struct Line(pub u16);
 // A pipe's number.
 pub struct Pipe(pub u16);
 
-// What a line is doing: at which pipe it waits or runs, and with which token and place.
+// A worker's number.
+pub struct Worker(pub u16);
+
+// What a line is doing: at which pipe it waits or runs, with which token and place, and by which worker. (A line that does not run
+// has worker 0.)
 pub struct Slot {
     pub pipe: Pipe,
     pub running: bool,
     pub token: Token,
     pub place: Place,
+    pub worker: Worker,
 }
 
 // The slots of all lines, a row for each kind of number: so a test of all of them takes a few instructions a row.
@@ -35,4 +41,5 @@ pub struct Slots {
     pub running: [bool; 32],
     pub token: [Token; 32],
     pub place: [Place; 32],
+    pub worker: [Worker; 32],
 }

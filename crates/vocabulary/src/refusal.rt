@@ -28,10 +28,12 @@ pub enum Refusal {
     Ended,
     // 12: the line waits with a counter above 0
     Early,
-    // 13: the line waits with counter 0, but W or more lines run
-    Crowded,
+    // 13: the line waits with counter 0, but the worker runs another line
+    WorkerBusy,
     // 14: the state or the memory is spoiled
     Spoiled,
+    // 26: the worker is W or more, or is not the one that runs the line
+    WrongWorker,
 }
 
 impl Refusal {
@@ -52,8 +54,9 @@ impl Refusal {
             Refusal::NoLine => 10,
             Refusal::Ended => 11,
             Refusal::Early => 12,
-            Refusal::Crowded => 13,
+            Refusal::WorkerBusy => 13,
             Refusal::Spoiled => 14,
+            Refusal::WrongWorker => 26,
         }
     }
 }

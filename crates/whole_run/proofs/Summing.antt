@@ -5,9 +5,9 @@ use Prim.Native.Nat.{ℕ, _+_, _*_, _<_, _≤_}
 use lib.ListN.{length, getD, drop}
 use Rattle.rules.specs.Answers.{answerOf}
 use Rattle.vocabulary.specs.Refusals.{numberOf}
-use Rattle.rules.specs.Choices.{choose, answers, follow}
-use Rattle.vocabulary.specs.declared.Line.{Line}
+use Rattle.rules.specs.Choices.{Choice, choicesIn, choose, answers, follow}
 use Rattle.vocabulary.specs.declared.answer.Step.{Step}
+use Rattle.vocabulary.specs.declared.answer.Stop.{Stop}
 use Rattle.vocabulary.specs.declared.answer.Answer.{Answer}
 use Rattle.vocabulary.specs.declared.refusal.Refusal.{Refusal}
 use Rattle.tables.specs.Calls.{memorySource}
@@ -19,20 +19,20 @@ use Rattle.opening.specs.declared.Opening.{Opening}
 use Rattle.opening.specs.declared.Opened.{Opened}
 use Rattle.opening.specs.Opened.{openOf}
 use Rattle.engine.proofs.Feeding.{follow-turn, follow-end, answers-turn, answers-end}
-use Rattle.whole_run.specs.Checksums.{stepValue, valueOf, mixed, checksum}
+use Rattle.whole_run.specs.Checksums.{stepValue, stopValue, valueOf, mixed, checksum}
 use Rattle.whole_run.specs.Runs.{ranFrom, runOf}
 
 -- an answer's value, case by case
 module _ {a : Answer} {v : ℕ} where
-  pub value-started : {s : Step} → a ≡ Answer.Started s → v ≡ stepValue (s .line .0) (s .pipe .0) (s .token .0) (s .place .0) → v ≡ valueOf (answerOf a)
+  pub value-started : {s : Step} → a ≡ Answer.Started s → v ≡ stepValue (s .line .0) (s .pipe .0) (s .token .0) (s .place .0) (s .worker .0) → v ≡ valueOf (answerOf a)
   unfolding valueOf answerOf
   value-started e h = rw e h
 
-  pub value-finished : {s : Step} → a ≡ Answer.Finished s → v ≡ stepValue (s .line .0) (s .pipe .0) (s .token .0) (s .place .0) → v + 1 ≡ valueOf (answerOf a)
+  pub value-finished : {s : Step} → a ≡ Answer.Finished s → v ≡ stepValue (s .line .0) (s .pipe .0) (s .token .0) (s .place .0) (s .worker .0) → v + 1 ≡ valueOf (answerOf a)
   unfolding valueOf answerOf
   value-finished e h = rw (e, h)
 
-  pub value-stopped : {l : Line} → a ≡ Answer.Stopped l → v ≡ l .0 → 4 * v + 2 ≡ valueOf (answerOf a)
+  pub value-stopped : {s : Stop} → a ≡ Answer.Stopped s → v ≡ stopValue (s .line .0) (s .worker .0) → v + 2 ≡ valueOf (answerOf a)
   unfolding valueOf answerOf
   value-stopped e h = rw (e, h)
 
@@ -41,25 +41,36 @@ module _ {a : Answer} {v : ℕ} where
   value-refused e n-is h = rw (e, h, n-is)
 
 -- a choice's answer is added, and the rest is summed from there
-module _ (s : State) (m : List ℕ) (ls : List ℕ) (i sum : ℕ) where
-  pub sum-turn : (r : Chosen) (m′ : List ℕ) {n : ℕ} → i < length ls → chosenOf r m′ ≡ choose memorySource (machineOf s m) (getD ls i 0) →
-      n ≡ mixed sum (valueOf (answerOf (r .answer))) →
-      checksum sum (answers memorySource (machineOf s m) (drop i ls)) ≡ checksum n (answers memorySource (machineOf (r .state) m′) (drop (i + 1) ls))
+module _ (s : State) (m : List ℕ) (bytes : List ℕ) (k sum : ℕ) where
+  -- what is left of the choices
+  abbrev rest : ℕ → List Choice
+  rest i = choicesIn (drop (2 * i) bytes)
+
+  -- a call of `choose` with the worker and the line of choice k
+  abbrev Called : Chosen → List ℕ → Type 0
+  Called r m′ = chosenOf r m′ ≡ choose memorySource (machineOf s m) (getD bytes (2 * k) 0) (getD bytes (2 * k + 1) 0)
+
+  pub called : (r : Chosen) (m′ : List ℕ) {w l : ℕ} → chosenOf r m′ ≡ choose memorySource (machineOf s m) w l →
+      w ≡ getD bytes (2 * k) 0 → l ≡ getD bytes (2 * k + 1) 0 → Called r m′
+  called r m′ e w-is l-is = rw (← w-is, ← l-is) e
+
+  pub sum-turn : (r : Chosen) (m′ : List ℕ) {n : ℕ} → 2 * k + 1 < length bytes → Called r m′ → n ≡ mixed sum (valueOf (answerOf (r .answer))) →
+      checksum sum (answers memorySource (machineOf s m) (rest k)) ≡ checksum n (answers memorySource (machineOf (r .state) m′) (rest (k + 1)))
   unfolding checksum chosenOf
-  sum-turn r m′ h e n-is = rw (answers-turn memorySource (machineOf s m) ls i h, ← e, n-is)
+  sum-turn r m′ h e n-is = rw (answers-turn bytes k memorySource (machineOf s m) h, ← e, n-is)
 
-  pub sum-end : i ≤ length ls → length ls ≤ i → checksum sum (answers memorySource (machineOf s m) (drop i ls)) ≡ sum
+  pub sum-end : length bytes ≤ 2 * k + 1 → checksum sum (answers memorySource (machineOf s m) (rest k)) ≡ sum
   unfolding checksum
-  sum-end h k = rw (answers-end memorySource (machineOf s m) ls i h k)
+  sum-end h = rw (answers-end bytes k memorySource (machineOf s m) h)
 
-  pub machine-turn : (r : Chosen) (m′ : List ℕ) → i < length ls → chosenOf r m′ ≡ choose memorySource (machineOf s m) (getD ls i 0) →
-      follow memorySource (machineOf s m) (drop i ls) ≡ follow memorySource (machineOf (r .state) m′) (drop (i + 1) ls)
+  pub machine-turn : (r : Chosen) (m′ : List ℕ) → 2 * k + 1 < length bytes → Called r m′ →
+      follow memorySource (machineOf s m) (rest k) ≡ follow memorySource (machineOf (r .state) m′) (rest (k + 1))
   unfolding chosenOf
-  machine-turn r m′ h e = follow-turn memorySource (machineOf s m) ls i (machineOf (r .state) m′) h (ap (λ c. c .machine) e)
+  machine-turn r m′ h e = follow-turn bytes k memorySource (machineOf s m) (machineOf (r .state) m′) h (ap (λ c. c .machine) e)
 
-  pub memory-end : i ≤ length ls → length ls ≤ i → follow memorySource (machineOf s m) (drop i ls) .source .1 ≡ m
+  pub memory-end : length bytes ≤ 2 * k + 1 → follow memorySource (machineOf s m) (rest k) .source .1 ≡ m
   unfolding machineOf
-  memory-end h k = ap (λ x. x .source .1) (follow-end memorySource (machineOf s m) ls i h k)
+  memory-end h = ap (λ x. x .source .1) (follow-end bytes k memorySource (machineOf s m) h)
 
 -- the whole run, by what the opening answered
 module _ (file : List ℕ) (workers : ℕ) (choices m : List ℕ) {o : Opened} {m′ : List ℕ}
@@ -75,7 +86,7 @@ module _ (file : List ℕ) (workers : ℕ) (choices m : List ℕ) {o : Opened} {
   refused-run e n-is r-is = rw (← from-opening, e) (r-is ∙ n-is, refl)
 
   pub accepted-run : {r : ℕ} {m″ : List ℕ} → o .answer ≡ Opening.Accepted →
-      r ≡ checksum 0 (answers memorySource (machineOf (o .state) m′) choices) → m″ ≡ follow memorySource (machineOf (o .state) m′) choices .source .1 →
+      r ≡ checksum 0 (answers memorySource (machineOf (o .state) m′) (choicesIn choices)) → m″ ≡ follow memorySource (machineOf (o .state) m′) (choicesIn choices) .source .1 →
       (r ≡ runOf file workers choices m .0) × (m″ ≡ runOf file workers choices m .1)
   unfolding ranFrom
   accepted-run e r-is m-was = rw (← from-opening, e) (r-is, m-was)

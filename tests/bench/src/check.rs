@@ -2,7 +2,7 @@
 //! rules, then those of the engine with the plain stepper's.
 
 use crate::engine;
-use crate::plain::{self, Answer, Run, Step};
+use crate::plain::{self, Answer, Choice, Run, Step};
 use crate::plans::{self, Chance, Plan, PARALLEL, SERIAL};
 
 const RANDOM_PLANS: usize = 5000;
@@ -10,7 +10,7 @@ const RANDOM_PLANS: usize = 5000;
 type Outcome = Result<(), String>;
 
 /// Both sides make the same whole run, else it says which choice they first differ at.
-pub fn same(file: &[u8], workers: u16, choices: &[u8], mem: &mut [u16]) -> Outcome {
+pub fn same(file: &[u8], workers: u16, choices: &[Choice], mem: &mut [u16]) -> Outcome {
     let opening = engine::run(file, workers, &[], mem);
     if opening != 0 {
         return Err(format!("the engine refuses the opening with {opening}"));
@@ -32,9 +32,10 @@ pub fn same(file: &[u8], workers: u16, choices: &[u8], mem: &mut [u16]) -> Outco
             bad = middle;
         }
     }
-    let (line, answer) = (choices[good], answers(file, workers, choices).1[good]);
+    let ([worker, line], answer) = (choices[good], answers(file, workers, choices).1[good]);
     Err(format!(
-        "W = {workers}, choice {good} (from 0), line {line}: the engine does not say {answer:?}"
+        "W = {workers}, choice {good} (from 0), worker {worker}, line {line}: the engine does not \
+         say {answer:?}"
     ))
 }
 
@@ -46,10 +47,16 @@ pub fn all(mem: &mut [u16]) -> Outcome {
     lent_beyond()
 }
 
-fn answers(file: &[u8], workers: u16, choices: &[u8]) -> (Run, Vec<Answer>) {
+fn answers(file: &[u8], workers: u16, choices: &[Choice]) -> (Run, Vec<Answer>) {
     let mut run = Run::open(file, workers);
-    let answers = choices.iter().map(|&line| run.choose(line)).collect();
+    let answers = choices.iter().map(|&choice| run.choose(choice)).collect();
     (run, answers)
+}
+
+/// The answers where lines are listed alone.
+fn line_answers(file: &[u8], workers: u16, lines: &[u8]) -> Vec<Answer> {
+    let mut run = Run::open(file, workers);
+    lines.iter().map(|&line| run.choose([run.worker_for(line), line])).collect()
 }
 
 fn expect(holds: bool, what: &str) -> Outcome {
@@ -107,14 +114,15 @@ fn worked_cases() -> Outcome {
     let [case_a, case_b] = [&CASES[0], &CASES[1]];
     let file = case_file(case_a, &[SERIAL], 1);
     expect(file == [0x53, 0, 0, 1, 0, 1, 0, 1, 0, 0, 0, 1, 0], "case a's file")?;
-    let step = Step { line: 0, pipe: 0, token: 0, place: 0 };
-    let (run, said) = answers(&file, 1, &[0, 0, 0, 0, 1]);
+    let step = Step { line: 0, pipe: 0, token: 0, place: 0, worker: 0 };
+    let (run, said) = answers(&file, 1, &[[0, 0], [0, 0], [0, 0], [0, 0], [1, 0], [1, 1]]);
     expect(
         said == [
             Answer::Started(step),
             Answer::Finished(step),
-            Answer::Stopped(0),
+            Answer::Stopped(0, 0),
             Answer::Refused(11),
+            Answer::Refused(26),
             Answer::Refused(10),
         ] && run.ended(),
         "case a's answers, and what comes after its end",
@@ -137,15 +145,15 @@ fn worked_cases() -> Outcome {
     let plan =
         |second| Plan { pipes: vec![SERIAL, second], lines: 2, tokens: 2, records: Vec::new() };
     let order = [0, 0, 0, 1, 1, 1, 1];
-    let said = answers(&plan(PARALLEL).file(), 2, &order).1;
-    let overtaker = Step { line: 1, pipe: 1, token: 1, place: 1 };
+    let said = line_answers(&plan(PARALLEL).file(), 2, &order);
+    let overtaker = Step { line: 1, pipe: 1, token: 1, place: 1, worker: 1 };
     expect(
         said[6] == Answer::Finished(overtaker) && starts(&said) == [(0, 0), (1, 1)],
         "token 1 is first to finish a parallel pipe",
     )?;
-    let said = answers(&plan(SERIAL).file(), 2, &order).1;
+    let said = line_answers(&plan(SERIAL).file(), 2, &order);
     expect(said[5] == Answer::Refused(12), "the sixth choice gets 12")?;
-    let said = answers(&plan(SERIAL).file(), 1, &[0, 0, 0, 1]).1;
+    let said = line_answers(&plan(SERIAL).file(), 1, &[0, 0, 0, 1]);
     expect(said[3] == Answer::Refused(13), "a second worker is wanted")
 }
 
@@ -237,35 +245,37 @@ fn random_plan(chance: &mut Chance) -> Plan {
     }
 }
 
-/// Allowed choices with any others in between, of lines up to 40. Some lists stop before the end of
+/// Allowed choices with any others in between, of lines up to 40 and any workers. Some lists stop before the end of
 /// the run and some go on after it.
-fn random_choices(chance: &mut Chance, plan: &Plan, file: &[u8], workers: u16) -> Vec<u8> {
+fn random_choices(chance: &mut Chance, plan: &Plan, file: &[u8], workers: u16) -> Vec<Choice> {
     let strays = chance.pick(&[1, 2, 4, 16]);
     let whole = 2 * usize::from(plan.tokens) * plan.pipes.len() + 1;
     let mut run = Run::open(file, workers);
     let mut choices = Vec::new();
     for _ in 0..chance.below(2 * whole + 20) {
-        let line = if chance.one_in(20) {
-            chance.below(41) as u8
+        let worker = chance.below(run.workers() + 1) as u8;
+        let choice = if chance.one_in(20) {
+            [worker, chance.below(41) as u8]
         } else if run.ended() || chance.one_in(strays) {
-            chance.below(run.lines()) as u8
+            [worker, chance.below(run.lines()) as u8]
         } else {
             chance.pick(&plans::allowed(&run))
         };
-        run.choose(line);
-        choices.push(line);
+        run.choose(choice);
+        choices.push(choice);
     }
     choices
 }
 
 /// The kinds of answers, named as the program prints them.
-const KINDS: [&str; 7] = ["S", "F", "X", "R 10", "R 11", "R 12", "R 13"];
+const KINDS: [&str; 8] = ["S", "F", "X", "R 10", "R 11", "R 12", "R 13", "R 26"];
 
 fn kind(answer: &Answer) -> usize {
     match *answer {
         Answer::Started(_) => 0,
         Answer::Finished(_) => 1,
-        Answer::Stopped(_) => 2,
+        Answer::Stopped(..) => 2,
+        Answer::Refused(26) => 7,
         Answer::Refused(number) => usize::from(number) - 10 + 3,
     }
 }
@@ -340,7 +350,7 @@ fn refused_openings() -> Outcome {
 
 fn refused(what: &str, number: u64, file: &[u8], workers: u16, lent: usize) -> Outcome {
     let mut mem = vec![MARK; lent];
-    let got = engine::run(file, workers, &[0, 0, 1, 2], &mut mem);
+    let got = engine::run(file, workers, &[[0, 0], [0, 0], [0, 1], [0, 2]], &mut mem);
     expect(got == number, &format!("{what} gets {number} (got {got})"))?;
     expect(mem.iter().all(|&x| x == MARK), &format!("{what} writes nothing"))
 }

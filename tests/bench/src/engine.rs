@@ -1,5 +1,7 @@
 //! The proved library's one function.
 
+use crate::plain::Choice;
+
 /// How many numbers a run must be lent.
 pub const LENT: usize = 32_768;
 
@@ -18,15 +20,16 @@ extern "C" {
 
 /// Opens the plan in the lent memory and makes every choice. Gives the checksum of all answers, as
 /// `plain::run` does, or the number 1 to 9 of a refused opening.
-pub fn run(file: &[u8], workers: u16, choices: &[u8], mem: &mut [u16]) -> u64 {
-    // Safe: each pointer goes with the length of its own slice, and only `mem` is written.
+pub fn run(file: &[u8], workers: u16, choices: &[Choice], mem: &mut [u16]) -> u64 {
+    // Safe: each pointer goes with the length of its own slice, in bytes for the choices, and only
+    // `mem` is written.
     unsafe {
         pipeline_run(
             file.as_ptr(),
             file.len(),
             workers,
-            choices.as_ptr(),
-            choices.len(),
+            choices.as_ptr().cast(),
+            2 * choices.len(),
             mem.as_mut_ptr(),
             mem.len(),
         )

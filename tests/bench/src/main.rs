@@ -44,7 +44,7 @@ struct Case {
     order: Order,
     file: Vec<u8>,
     workers: u16,
-    lists: Vec<Vec<u8>>,
+    lists: Vec<Vec<plain::Choice>>,
 }
 
 impl Deferral {
@@ -87,8 +87,8 @@ impl Case {
             // All tokens are ordered, no choice is refused, and the last one ends the run.
             assert_eq!(choices.len(), 2 * usize::from(tokens) * plan.pipes.len() + 1);
             let mut run = plain::Run::open(&file, workers);
-            for &line in choices {
-                assert!(!matches!(run.choose(line), plain::Answer::Refused(_)));
+            for &choice in choices {
+                assert!(!matches!(run.choose(choice), plain::Answer::Refused(_)));
             }
             assert!(run.ended());
         }
@@ -153,7 +153,7 @@ impl Times {
 }
 
 /// Makes a whole run of each list once untimed, then as often as fills the timed part.
-fn time(case: &Case, times: &mut Times, mut whole_run: impl FnMut(&[u8], u16, &[u8]) -> u64) {
+fn time(case: &Case, times: &mut Times, mut whole_run: impl FnMut(&[u8], u16, &[plain::Choice]) -> u64) {
     let mut all_lists = || {
         let start = Instant::now();
         for choices in &case.lists {

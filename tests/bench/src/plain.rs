@@ -1,12 +1,15 @@
 //! A stepper of the same rules in ordinary Rust, nothing of it proved, that the engine is measured
 //! against.
 //!
-//! It trusts its plan file and keeps its state to itself, so that it refuses with 10 to 13 only.
+//! It trusts its plan file and keeps its state to itself, so that it refuses with 10 to 13 and 26 only.
 
 use std::collections::VecDeque;
 
 const TRAILER: usize = 12;
 const SERIAL: u8 = 83;
+
+/// A worker and a line.
+pub type Choice = [u8; 2];
 
 #[derive(Clone, Copy, Debug, PartialEq, Eq)]
 pub struct Step {
@@ -14,13 +17,15 @@ pub struct Step {
     pub pipe: u8,
     pub token: u16,
     pub place: u16,
+    pub worker: u8,
 }
 
 #[derive(Clone, Copy, Debug, PartialEq, Eq)]
 pub enum Answer {
     Started(Step),
     Finished(Step),
-    Stopped(u8),
+    /// The line and the worker.
+    Stopped(u8, u8),
     Refused(u8),
 }
 
@@ -30,6 +35,7 @@ impl Step {
             + u64::from(self.pipe) * 256
             + u64::from(self.token) * 4096
             + u64::from(self.place) * 16_777_216
+            + u64::from(self.worker) * 68_719_476_736
     }
 }
 
@@ -39,16 +45,19 @@ impl Answer {
         match self {
             Answer::Started(step) => step.value(),
             Answer::Finished(step) => step.value() + 1,
-            Answer::Stopped(line) => u64::from(line) * 4 + 2,
+            Answer::Stopped(line, worker) => {
+                u64::from(line) * 4 + u64::from(worker) * 68_719_476_736 + 2
+            }
             Answer::Refused(number) => u64::from(number) * 4 + 3,
         }
     }
 }
 
 /// A whole run: opens the plan, makes every choice, and gives the checksum of all answers.
-pub fn run(file: &[u8], workers: u16, choices: &[u8]) -> u64 {
+pub fn run(file: &[u8], workers: u16, choices: &[Choice]) -> u64 {
     let mut run = Run::open(file, workers);
-    choices.iter().fold(0, |sum, &line| (sum * 1_000_003 + run.choose(line).value()) % (1 << 40))
+    let add = |sum, &choice: &Choice| (sum * 1_000_003 + run.choose(choice).value()) % (1 << 41);
+    choices.iter().fold(0, add)
 }
 
 struct Pipe {
@@ -56,13 +65,15 @@ struct Pipe {
     full: u8,
 }
 
-/// A line runs at `pipe` or waits there. Token and place are those it carries.
+/// A line runs at `pipe` or waits there. Token and place are those it carries, and the worker is the
+/// one that runs it.
 #[derive(Clone, Copy)]
 struct Line {
     running: bool,
     pipe: u8,
     token: u16,
     place: u16,
+    worker: u8,
 }
 
 pub struct Run {
@@ -70,7 +81,8 @@ pub struct Run {
     lines: Vec<Line>,
     /// Join counters, a row of pipes for each line.
     counters: Vec<u8>,
-    workers: u16,
+    /// Whether each worker runs a line.
+    busy: Vec<bool>,
     running: u16,
     stopped: bool,
     ended: bool,
@@ -99,12 +111,12 @@ impl Run {
             }
         }
 
-        let idle = Line { running: false, pipe: 0, token: 0, place: 0 };
+        let idle = Line { running: false, pipe: 0, token: 0, place: 0, worker: 0 };
         Run {
             pipes,
             lines: vec![idle; line_count.into()],
             counters,
-            workers,
+            busy: vec![false; workers.into()],
             running: 0,
             stopped: false,
             ended: false,
@@ -124,32 +136,49 @@ impl Run {
         self.ended
     }
 
-    /// The number that a choice of this line would be refused with now.
-    pub fn refusal(&self, line: u8) -> Option<u8> {
+    pub fn workers(&self) -> usize {
+        self.busy.len()
+    }
+
+    /// The worker that goes with a line: its own, or the idle one with the smallest number.
+    pub fn worker_for(&self, line: u8) -> u8 {
+        let line = self.lines[usize::from(line)];
+        if line.running {
+            return line.worker;
+        }
+        self.busy.iter().position(|&busy| !busy).unwrap_or(0) as u8
+    }
+
+    /// The number that a choice would be refused with now.
+    pub fn refusal(&self, [worker, line]: Choice) -> Option<u8> {
         let Some(state) = self.lines.get(usize::from(line)) else {
             return Some(10);
+        };
+        let Some(&busy) = self.busy.get(usize::from(worker)) else {
+            return Some(26);
         };
         if self.ended {
             Some(11)
         } else if state.running {
-            None
+            (state.worker != worker).then_some(26)
         } else if self.counters[self.counter(line.into(), state.pipe.into())] > 0 {
             Some(12)
-        } else if self.running >= self.workers {
+        } else if busy {
             Some(13)
         } else {
             None
         }
     }
 
-    pub fn choose(&mut self, line: u8) -> Answer {
-        if let Some(number) = self.refusal(line) {
+    pub fn choose(&mut self, choice: Choice) -> Answer {
+        let [worker, line] = choice;
+        if let Some(number) = self.refusal(choice) {
             return Answer::Refused(number);
         }
         let answer = if self.lines[usize::from(line)].running {
             self.finish(line.into())
         } else {
-            self.start(line.into())
+            self.start(worker, line.into())
         };
         if self.stopped {
             self.ended = self.has_ended();
@@ -157,19 +186,21 @@ impl Run {
         answer
     }
 
-    fn start(&mut self, line: usize) -> Answer {
+    fn start(&mut self, worker: u8, line: usize) -> Answer {
         let pipe = usize::from(self.lines[line].pipe);
         let counter = self.counter(line, pipe);
         self.counters[counter] = self.pipes[pipe].full;
         if pipe == 0 {
             let Some((token, place)) = self.tokens.take() else {
                 self.stopped = true;
-                return Answer::Stopped(line as u8);
+                return Answer::Stopped(line as u8, worker);
             };
             self.lines[line].token = token;
             self.lines[line].place = place;
         }
         self.lines[line].running = true;
+        self.lines[line].worker = worker;
+        self.busy[usize::from(worker)] = true;
         self.running += 1;
         Answer::Started(self.step(line))
     }
@@ -190,6 +221,7 @@ impl Run {
         self.counters[counter] -= 1;
         self.lines[line].pipe = next_pipe as u8;
         self.lines[line].running = false;
+        self.busy[usize::from(step.worker)] = false;
         self.running -= 1;
         Answer::Finished(step)
     }
@@ -203,8 +235,8 @@ impl Run {
     }
 
     fn step(&self, line: usize) -> Step {
-        let Line { pipe, token, place, .. } = self.lines[line];
-        Step { line: line as u8, pipe, token, place }
+        let Line { pipe, token, place, worker, .. } = self.lines[line];
+        Step { line: line as u8, pipe, token, place, worker }
     }
 
     fn counter(&self, line: usize, pipe: usize) -> usize {

@@ -1,6 +1,6 @@
 //! Plans, written as files, and lists of choices.
 
-use crate::plain::{Answer, Run};
+use crate::plain::{Answer, Choice, Run};
 
 pub const SERIAL: u8 = 83;
 pub const PARALLEL: u8 = 80;
@@ -90,36 +90,39 @@ impl Chance {
     }
 }
 
-/// The lines whose choice would be accepted now.
-pub fn allowed(run: &Run) -> Vec<u8> {
-    (0..run.lines() as u8).filter(|&line| run.refusal(line).is_none()).collect()
+/// The choices of each line's worker that would be accepted now.
+pub fn allowed(run: &Run) -> Vec<Choice> {
+    (0..run.lines() as u8)
+        .map(|line| [run.worker_for(line), line])
+        .filter(|&choice| run.refusal(choice).is_none())
+        .collect()
 }
 
 /// Each choice is drawn from all that are allowed, until the run has ended.
-pub fn random_order(file: &[u8], workers: u16, seed: u32) -> Vec<u8> {
+pub fn random_order(file: &[u8], workers: u16, seed: u32) -> Vec<Choice> {
     let mut chance = Chance(seed);
     let mut run = Run::open(file, workers);
     let mut choices = Vec::new();
     while !run.ended() {
-        let line = chance.pick(&allowed(&run));
-        run.choose(line);
-        choices.push(line);
+        let choice = chance.pick(&allowed(&run));
+        run.choose(choice);
+        choices.push(choice);
     }
     choices
 }
 
 /// The one-worker run, to be opened with W = 1: each token in order goes through all pipes on its
 /// line, and after the last the next line stops.
-pub fn one_worker_order(file: &[u8]) -> Vec<u8> {
+pub fn one_worker_order(file: &[u8]) -> Vec<Choice> {
     let mut run = Run::open(file, 1);
     let mut choices = Vec::new();
     let mut line = 0;
     loop {
         for _ in 0..2 * run.pipes() {
-            choices.push(line as u8);
-            match run.choose(line as u8) {
+            choices.push([0, line as u8]);
+            match run.choose([0, line as u8]) {
                 Answer::Started(_) | Answer::Finished(_) => {}
-                Answer::Stopped(_) => {
+                Answer::Stopped(..) => {
                     assert!(run.ended(), "the stop of the one-worker run ends it");
                     return choices;
                 }

@@ -92,7 +92,7 @@ module _ (f : Figures) (line : Line) (slot : Slot) where
   -- the code's turn, with the slot that it worked out
   pub settled-with : (x : Falls) (t : Tables) {after : Slot} → after ≡ moved (f .pipes) slot →
       Turn.Made (record {
-        answer = Answer.Finished (record { line = line; pipe = slot .pipe; token = slot .token; place = slot .place });
+        answer = Answer.Finished (record { line = line; pipe = slot .pipe; token = slot .token; place = slot .place; worker = slot .worker });
         first = x .first;
         second = x .second;
         slot = after;

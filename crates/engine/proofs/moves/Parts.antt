@@ -32,6 +32,7 @@ withParts s counters slots placed stopped tables =
       running = slots .running;
       token = slots .token;
       place = slots .place;
+      worker = slots .worker;
       placed = placed;
       stopped = stopped;
       tables = tables;

@@ -10,6 +10,7 @@ use lib.Dec.{ltb}
 use lib.ListN.{set}
 use Rattle.rules.specs.Lists.{if}
 use Rattle.vocabulary.specs.declared.Line.{Line}
+use Rattle.vocabulary.specs.declared.Worker.{Worker}
 use Rattle.vocabulary.specs.declared.Slot.{Slot}
 use Rattle.vocabulary.specs.declared.Slots.{Slots}
 use Rattle.vocabulary.specs.declared.answer.Answer.{Answer}
@@ -80,26 +81,34 @@ written-twice (x ∷ c) zero v = refl
 written-twice (x ∷ c) (suc i) v = ap (λ (r : List ℕ). x ∷ r) (written-twice c i v)
 
 -- the code's turns, with the counter that it worked out
-module _ (f : Figures) (line : Line) (slot : Slot) {cell : Cell} where
+module _ (f : Figures) (worker : Worker) (line : Line) (slot : Slot) {cell : Cell} where
   pub started-with : cell ≡ refilled f (line .0) (slot .pipe .0) →
       Turn.Made (record {
-        answer = Answer.Started (record { line = line; pipe = slot .pipe; token = slot .token; place = slot .place });
+        answer = Answer.Started (record { line = line; pipe = slot .pipe; token = slot .token; place = slot .place; worker = worker });
         first = cell;
         second = cell;
-        slot = record { pipe = slot .pipe; running = true; token = slot .token; place = slot .place };
+        slot = record { pipe = slot .pipe; running = true; token = slot .token; place = slot .place; worker = worker };
         placed = f .placed;
         stopped = f .stopped;
         tables = f .tables;
       }) ≡
-      startedTurn f line slot
+      startedTurn f worker line slot
   started-with e = rw e
 
   pub stopped-with : (t : Tables) → cell ≡ refilled f (line .0) 0 →
-      Turn.Made (record { answer = Answer.Stopped line; first = cell; second = cell; slot = slot; placed = f .placed; stopped = true; tables = t }) ≡
-      stoppedTurn f line slot t
+      Turn.Made (record {
+        answer = Answer.Stopped (record { line = line; worker = worker });
+        first = cell;
+        second = cell;
+        slot = slot;
+        placed = f .placed;
+        stopped = true;
+        tables = t;
+      }) ≡
+      stoppedTurn f worker line slot t
   stopped-with t e = rw e
 
-module _ (f : Figures) (counters : List ℕ) (slots : Slots) (line : Line) where
+module _ (f : Figures) (counters : List ℕ) (slots : Slots) (worker : Worker) (line : Line) where
   abbrev s : State
   s = whole f counters slots
 
@@ -110,13 +119,13 @@ module _ (f : Figures) (counters : List ℕ) (slots : Slots) (line : Line) where
 
   -- a start at the pipe of a slot, with its token and place
   started : (slot : Slot) (m : List ℕ) →
-      chosenOf (turned s (line .0) (startedTurn f line slot)) m ≡ startLater memorySource (machineOf s m) (line .0) slot
+      chosenOf (turned s (line .0) (startedTurn f worker line slot)) m ≡ startLater memorySource (machineOf s m) (worker .0) (line .0) slot
   unfolding chosenOf answerOf startLater machineOf
   started slot m = parts s m m refl (full-again (slot .pipe .0)) refl refl
 
   -- a start with a token that was taken
   taken : (t : Tables) (token : ℕ) → t .tokens ≡ f .tables .tokens → f .placed < f .tables .tokens → (m m′ : List ℕ) →
-      chosenOf (turned s (line .0) (takenTurn f line token t)) m′ ≡ startFirst memorySource (machineOf s m) (line .0) (Took token (t, m′))
+      chosenOf (turned s (line .0) (takenTurn f worker line token t)) m′ ≡ startFirst memorySource (machineOf s m) (worker .0) (line .0) (Took token (t, m′))
   unfolding chosenOf answerOf startFirst machineOf
   taken t token same room m m′ =
       rw (lt-ltb (f .placed) (f .tables .tokens) room) (parts s m m′ same (full-again 0) refl (add-one (f .placed)))
@@ -124,14 +133,14 @@ module _ (f : Figures) (counters : List ℕ) (slots : Slots) (line : Line) where
   module _ (slot : Slot) (at : slotAt slots (line .0) ≡ slot) where
     -- a stop
     stopped : (t : Tables) → t .tokens ≡ f .tables .tokens → (m m′ : List ℕ) →
-        chosenOf (turned s (line .0) (stoppedTurn f line slot t)) m′ ≡ startFirst memorySource (machineOf s m) (line .0) (Nothing (t, m′))
+        chosenOf (turned s (line .0) (stoppedTurn f worker line slot t)) m′ ≡ startFirst memorySource (machineOf s m) (worker .0) (line .0) (Nothing (t, m′))
     unfolding chosenOf answerOf startFirst machineOf
     stopped t same m m′ =
         parts s m m′ same (full-again 0) (ap (putSlot slots (line .0)) (sym at) ∙ put-own slots (line .0)) refl
 
     -- a token that no place is left for is refused
     over : (m : List ℕ) (o : Outcome tables.State) → if (ltb (f .placed) (f .tables .tokens)) false (isTook o) ≡ true →
-        refuse (machineOf s m) 14 ≡ startFirst memorySource (machineOf s m) (line .0) o
+        refuse (machineOf s m) 14 ≡ startFirst memorySource (machineOf s m) (worker .0) (line .0) o
     unfolding startFirst machineOf
     over m Spoiled e = refl
     over m (Nothing x) e = by-test (ltb (f .placed) (f .tables .tokens))
@@ -147,16 +156,16 @@ module _ (f : Figures) (counters : List ℕ) (slots : Slots) (line : Line) where
       given = safeTake (f .tables, mem)
 
       abbrev First : Turn → List ℕ → Type 0
-      First r mem′ = chosenOf (turned s (line .0) r) mem′ ≡ startFirst memorySource (machineOf s mem) (line .0) given
+      First r mem′ = chosenOf (turned s (line .0) r) mem′ ≡ startFirst memorySource (machineOf s mem) (worker .0) (line .0) given
 
       pub first-overfull : {b : Bool} → b ≡ overfullOf f mem → b ≡ true → First (Turn.Refused Refusal.Spoiled) mem
       unfolding overfullOf
       first-overfull told e = refused s Refusal.Spoiled mem refl ∙ over mem given (sym told ∙ e)
 
       -- the start with what is given, as it was told
-      from : {o : Outcome tables.State} {c : rules.Chosen tables.State} → given ≡ o → c ≡ startFirst memorySource (machineOf s mem) (line .0) o →
-          c ≡ startFirst memorySource (machineOf s mem) (line .0) given
-      from e h = h ∙ ap (startFirst memorySource (machineOf s mem) (line .0)) (sym e)
+      from : {o : Outcome tables.State} {c : rules.Chosen tables.State} → given ≡ o → c ≡ startFirst memorySource (machineOf s mem) (worker .0) (line .0) o →
+          c ≡ startFirst memorySource (machineOf s mem) (worker .0) (line .0) given
+      from e h = h ∙ ap (startFirst memorySource (machineOf s mem) (worker .0) (line .0)) (sym e)
 
       module _ {a : Taken} (told : a ≡ takenOf given) {mem′ : List ℕ} (left : mem′ ≡ takenMemory mem given) where
         pub first-spoiled : a ≡ Taken.Spoiled → First (Turn.Refused Refusal.Spoiled) mem′
@@ -165,20 +174,20 @@ module _ (f : Figures) (counters : List ℕ) (slots : Slots) (line : Line) where
             let o = was-spoiled mem given (sym told ∙ e) in
             ap (chosenOf (turned s (line .0) (Turn.Refused Refusal.Spoiled))) (left ∙ o .1) ∙ from (o .0) (refused s Refusal.Spoiled mem refl)
 
-        pub first-nothing : {t : Tables} {r : Turn} → a ≡ Taken.Nothing t → t .tokens ≡ f .tables .tokens → r ≡ stoppedTurn f line slot t → First r mem′
+        pub first-nothing : {t : Tables} {r : Turn} → a ≡ Taken.Nothing t → t .tokens ≡ f .tables .tokens → r ≡ stoppedTurn f worker line slot t → First r mem′
         first-nothing {t} e same r-is = from (was-nothing mem given (sym told ∙ e)) (rw (r-is, left) (stopped t same mem (takenMemory mem given)))
 
         pub first-took : {k : ℕ} {t : Tables} {r : Turn} → a ≡ Taken.Took k t → t .tokens ≡ f .tables .tokens → f .placed < f .tables .tokens →
-            r ≡ takenTurn f line k t → First r mem′
+            r ≡ takenTurn f worker line k t → First r mem′
         first-took {k} {t} e same room r-is = from (was-took mem given (sym told ∙ e)) (rw (r-is, left) (taken t k same room mem (takenMemory mem given)))
 
       -- at pipe 0, and later
-      pub start-first : {c : rules.Chosen tables.State} → slot .pipe .0 ≡ 0 → c ≡ startFirst memorySource (machineOf s mem) (line .0) given →
-          c ≡ start memorySource (machineOf s mem) (line .0)
+      pub start-first : {c : rules.Chosen tables.State} → slot .pipe .0 ≡ 0 → c ≡ startFirst memorySource (machineOf s mem) (worker .0) (line .0) given →
+          c ≡ start memorySource (machineOf s mem) (worker .0) (line .0)
       unfolding start machineOf
       start-first e h = rw (at, eq-eqb (slot .pipe .0) 0 e) h
 
-      pub start-later : {r : Turn} → (slot .pipe .0 ≡ 0 → ⊥) → r ≡ startedTurn f line slot →
-          chosenOf (turned s (line .0) r) mem ≡ start memorySource (machineOf s mem) (line .0)
+      pub start-later : {r : Turn} → (slot .pipe .0 ≡ 0 → ⊥) → r ≡ startedTurn f worker line slot →
+          chosenOf (turned s (line .0) r) mem ≡ start memorySource (machineOf s mem) (worker .0) (line .0)
       unfolding start machineOf
       start-later n r-is = rw (r-is, at, ne-eqb (slot .pipe .0) 0 n) (started slot mem)

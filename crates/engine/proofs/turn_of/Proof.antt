@@ -1,7 +1,7 @@
 -- `engine::turn_of` meets its contract.
 use borrow.Author.Needs.{needs}
 use borrow.Author.Tests.{not-true, not-false}
-use Rattle.ranges.proofs.in_range.SurveyLaws.{tells-running}
+use Rattle.ranges.proofs.in_range.SurveyLaws.{tells-busy}
 use Rattle.engine.proofs.moves.ChooseLaws as laws
 use Rattle.engine.proofs.turn_of.Statement.{statement}
 use Rattle.engine.proofs.turn_of.Tie as tie
@@ -13,7 +13,7 @@ same-length : tie.Need-same-length
 same-length c = search needs
 
 returns : tie.Need-returns
-returns c = (tt, laws.choose-unsound _ _ _ _ _ (c .before .before .look-over .ensures) (not-true _ (c .if1 .taken)))
+returns c = (tt, laws.choose-unsound _ _ _ _ _ _ (c .before .before .look-over .ensures) (not-true _ (c .if1 .taken)))
 
 same-length-2 : tie.Need-same-length-2
 same-length-2 c = search needs
@@ -21,45 +21,59 @@ same-length-2 c = search needs
 returns-2 : tie.Need-returns-2
 returns-2 c =
     let at-if1 = c .before .before .before in
-    (tt, laws.choose-far _ _ _ _ _ (at-if1 .before .before .look-over .ensures) (not-false _ (at-if1 .if1 .left)) (c .if2 .taken))
-
-is-over-requires : tie.Need-is-over-requires
-is-over-requires c κs = search needs
+    (tt, laws.choose-far _ _ _ _ _ _ (at-if1 .before .before .look-over .ensures) (not-false _ (at-if1 .if1 .left)) (c .if2 .taken))
 
 same-length-3 : tie.Need-same-length-3
 same-length-3 c = search needs
 
 returns-3 : tie.Need-returns-3
 returns-3 c =
-    let after-over = c .before in
-    let at-if2 = after-over .before in
+    let at-if2 = c .before .before .before in
     let at-if1 = at-if2 .before .before .before in (
       tt,
-      laws.choose-over _ _ _ _ _ (at-if1 .before .before .look-over .ensures) (not-false _ (at-if1 .if1 .left)) (at-if2 .if2 .left)
-          (after-over .is-over .ensures) (c .if3 .taken),
+      laws.choose-unknown _ _ _ _ _ _ (at-if1 .before .before .look-over .ensures) (not-false _ (at-if1 .if1 .left)) (at-if2 .if2 .left) (c .if3 .taken),
     )
 
-move-line-requires : tie.Need-move-line-requires
-move-line-requires c κs =
-    let at-if2 = c .before .before .before .before in
-    let at-if1 = at-if2 .before .before .before in
-    laws.ready-seen _ _ _ _ _ (at-if1 .before .before .look-over .ensures) (not-false _ (at-if1 .if1 .left)) (at-if2 .if2 .left)
+is-over-requires : tie.Need-is-over-requires
+is-over-requires c κs = search needs
 
 same-length-4 : tie.Need-same-length-4
 same-length-4 c = search needs
 
 returns-4 : tie.Need-returns-4
 returns-4 c =
+    let after-over = c .before in
+    let at-if3 = after-over .before in
+    let at-if2 = at-if3 .before .before .before in
+    let at-if1 = at-if2 .before .before .before in (
+      tt,
+      laws.choose-over _ _ _ _ _ _ (at-if1 .before .before .look-over .ensures) (not-false _ (at-if1 .if1 .left)) (at-if2 .if2 .left)
+          (at-if3 .if3 .left) (after-over .is-over .ensures) (c .if4 .taken),
+    )
+
+move-line-requires : tie.Need-move-line-requires
+move-line-requires c κs =
+    let at-if3 = c .before .before .before .before in
+    let at-if2 = at-if3 .before .before .before in
+    let at-if1 = at-if2 .before .before .before in
+    laws.ready-seen _ _ _ _ _ _ (at-if1 .before .before .look-over .ensures) (not-false _ (at-if1 .if1 .left)) (at-if2 .if2 .left)
+
+same-length-5 : tie.Need-same-length-5
+same-length-5 c = search needs
+
+returns-5 : tie.Need-returns-5
+returns-5 c =
     let after-move = c .before .before in
-    let at-if3 = after-move .before .before .before in
-    let after-over = at-if3 .before in
-    let at-if2 = after-over .before in
+    let at-if4 = after-move .before .before .before in
+    let after-over = at-if4 .before in
+    let at-if3 = after-over .before in
+    let at-if2 = at-if3 .before .before .before in
     let at-if1 = at-if2 .before .before .before in
     let seen-is = at-if1 .before .before .look-over .ensures in
     let ok = not-false _ (at-if1 .if1 .left) in (
       after-move .move-line .ensures .0,
-      laws.choose-move _ _ _ _ _ seen-is ok (at-if2 .if2 .left) (after-over .is-over .ensures) (at-if3 .if3 .left)
-          (after-move .move-line .ensures .1 _ (laws.slot-here _ _ _ _ _ seen-is ok (at-if2 .if2 .left)) (tells-running _ _ _ _ _ seen-is ok)),
+      laws.choose-move _ _ _ _ _ _ seen-is ok (at-if2 .if2 .left) (at-if3 .if3 .left) (after-over .is-over .ensures) (at-if4 .if4 .left)
+          (after-move .move-line .ensures .1 _ (laws.slot-here _ _ _ _ _ _ seen-is ok (at-if2 .if2 .left)) (tells-busy _ _ _ _ _ _ seen-is ok)),
     )
 
 pub turn-of-spec : {M : Type 1} → statement M
@@ -71,9 +85,11 @@ turn-of-spec =
     returns
     same-length-2
     returns-2
-    is-over-requires
     same-length-3
     returns-3
-    move-line-requires
+    is-over-requires
     same-length-4
-    returns-4)
+    returns-4
+    move-line-requires
+    same-length-5
+    returns-5)

@@ -10,18 +10,18 @@ use Rattle.rules.specs.Lists.{if, all, every, within}
 use Rattle.rules.specs.Ranges.{sound, numbersSound, serialSound, slotSound, counterSound}
 use Rattle.rules.specs.RunState.{Machine, slotAt}
 use Rattle.vocabulary.specs.declared.Slots.{Slots}
-use Rattle.rules.specs.Choices.{runningBelow}
+use Rattle.rules.specs.Choices.{atWork}
 use Rattle.rules.proofs.lists.Tests.{if-same, if-eta}
 use Rattle.tables.specs.State as tables
 use Rattle.tables.specs.Calls.{memorySource}
 use Rattle.state.specs.declared.Figures.{Figures}
-use Rattle.ranges.specs.declared.slots.Tally.{Tally}
+use Rattle.ranges.specs.declared.slots.Found.{Found}
 use Rattle.state.specs.Machines.{machineOf, whole}
-use Rattle.ranges.specs.RangeParts.{figuresSound, tallyOf}
+use Rattle.ranges.specs.RangeParts.{figuresSound, foundOf}
 use Rattle.ranges.specs.Surveys.{restSound, near, spoiled, surveyOf}
 use Rattle.state.proofs.in_range.Holding.{first-holds, rest-hold}
 use Rattle.ranges.proofs.in_range.FlagLaws.{flags-are}
-use Rattle.ranges.proofs.in_range.SlotLaws.{running-all}
+use Rattle.ranges.proofs.in_range.SlotLaws.{works-all}
 
 -- single numbers that are in range
 module _ (f : Figures) (ok : figuresSound f ≡ true) where
@@ -77,7 +77,7 @@ module _ (f : Figures) (counters : List ℕ) (slots : Slots) (mem : List ℕ) wh
 
   -- the slots, and all the rest
   abbrev slotsOk : Bool
-  slotsOk = every 32 (slotSound (f .pipes) (f .lines) (f .tables .tokens) slots)
+  slotsOk = every 32 (slotSound (f .pipes) (f .lines) (f .tables .tokens) (f .workers) slots)
 
   sound-is : sound memorySource machine ≡ if (restSound f counters mem) slotsOk false
   unfolding sound restSound machineOf
@@ -90,28 +90,28 @@ module _ (f : Figures) (counters : List ℕ) (slots : Slots) (mem : List ℕ) wh
       ap (λ b. if (all (figuresSound f ∷ countersOk ∷ b ∷ tablesOk ∷ [])) slotsOk false) (sym (flags-are (f .pipes) (f .serial)))
 
   -- what is told of the state
-  module _ (line : ℕ) where
-    pub rest-fails : {b : Bool} → b ≡ restSound f counters mem → b ≡ false → spoiled ≡ surveyOf f counters slots mem line
+  module _ (worker line : ℕ) where
+    pub rest-fails : {b : Bool} → b ≡ restSound f counters mem → b ≡ false → spoiled ≡ surveyOf f counters slots mem worker line
     unfolding surveyOf
     rest-fails b-is e = rw (sound-is, sym b-is ∙ e)
 
     module _ {b : Bool} (b-is : b ≡ restSound f counters mem) (ok : b ≡ true)
-        {found : Tally} (found-is : found ≡ tallyOf slots (f .pipes) (f .lines) (f .tables .tokens)) where
+        {found : Found} (found-is : found ≡ foundOf slots (f .pipes) (f .lines) (f .tables .tokens) (f .workers) worker) where
       slots-are : found .sound ≡ slotsOk
-      unfolding tallyOf
+      unfolding foundOf
       slots-are = ap (λ t. t .sound) found-is
 
-      pub slots-fail : found .sound ≡ false → spoiled ≡ surveyOf f counters slots mem line
+      pub slots-fail : found .sound ≡ false → spoiled ≡ surveyOf f counters slots mem worker line
       unfolding surveyOf
       slots-fail e = rw (sound-is, sym b-is ∙ ok, sym slots-are ∙ e)
 
-      running-is : found .sound ≡ true → found .running ≡ runningBelow slots (f .lines)
-      unfolding tallyOf
-      running-is e =
-          ap (λ t. t .running) found-is ∙
-          running-all slots (f .pipes) (f .lines) (f .tables .tokens) 32 (lines-most f (figures-ok f counters mem b-is ok)) (sym slots-are ∙ e)
+      busy-is : found .sound ≡ true → found .busy ≡ atWork slots worker (f .lines)
+      unfolding foundOf
+      busy-is e =
+          ap (λ t. t .busy) found-is ∙
+          works-all slots worker (f .pipes) (f .lines) (f .tables .tokens) (f .workers) 32 (lines-most f (figures-ok f counters mem b-is ok)) (sym slots-are ∙ e)
 
       pub told : found .sound ≡ true → {at : ℕ} → at ≡ near line →
-          record { sound = true; running = found .running; slot = slotAt slots at } ≡ surveyOf f counters slots mem line
+          record { sound = true; busy = found .busy; slot = slotAt slots at } ≡ surveyOf f counters slots mem worker line
       unfolding surveyOf
-      told e at-is = rw (sound-is, sym b-is ∙ ok, sym slots-are ∙ e, running-is e, at-is)
+      told e at-is = rw (sound-is, sym b-is ∙ ok, sym slots-are ∙ e, busy-is e, at-is)

@@ -1,4 +1,4 @@
--- The slots, line by line: whether each is within its range, and how many lines run.
+-- The slots, line by line: whether each is within its range, and whether a worker runs one.
 use mathlib.Core.Path.{_≡_, refl, sym}
 use mathlib.Core.Bool.{Bool, true, false, not, true≢false}
 use mathlib.Core.List.{[], _∷_}
@@ -13,10 +13,10 @@ use Rattle.rules.specs.Lists.{if, all, every}
 use Rattle.vocabulary.specs.declared.Slot.{Slot}
 use Rattle.vocabulary.specs.declared.Slots.{Slots}
 use Rattle.rules.specs.RunState.{slotAt}
-use Rattle.rules.specs.Choices.{runningBelow}
-use Rattle.rules.specs.Ranges.{isIdle, isLoaded, slotSound}
-use Rattle.rules.proofs.lists.Tests.{by-test, lower, upper, below, if-same, pos-eqb}
-use Rattle.ranges.specs.RangeParts.{larger, tallyOf}
+use Rattle.rules.specs.Choices.{runBy, atWork}
+use Rattle.rules.specs.Ranges.{isIdle, isLoaded, workerSound, slotSound}
+use Rattle.rules.proofs.lists.Tests.{by-test, same, other, sameAs, lower, upper, below, if-same, pos-eqb}
+use Rattle.ranges.specs.RangeParts.{larger, foundOf}
 use Rattle.state.proofs.in_range.Holding.{first-holds, rest-hold}
 use Rattle.ranges.proofs.in_range.Highest.{larger-ltb, larger-none}
 
@@ -40,6 +40,14 @@ nothing-held : (used a b : Bool) → if a b false ≡ if (if a (if b true false)
 nothing-held used true true = refl
 nothing-held used true false = sym (if-same used false)
 nothing-held used false b = sym (if-same used false)
+
+-- a number below its bound, or 0 where there is none: one comparison, with the bound or with 1
+pub limit-is : (holds : Bool) (held bound : ℕ) → ltb held (if holds bound 1) ≡ if holds (ltb held bound) (eqb held 0)
+limit-is true held bound = refl
+limit-is false held bound = elim (sameAs held 0) [
+  | same e t ↦ rw (t, lt-ltb held 1 (omega arith))
+  | other n t ↦ rw (t, le-ltb held 1 (omega arith))
+]
 
 -- the code's test of one slot is that of the rules
 module _ (s : Slot) (used : Bool) (pipes tokens : ℕ) where
@@ -86,33 +94,43 @@ module _ (s : Slot) (used : Bool) (pipes tokens : ℕ) where
         | upper h t ↦ let first : s .pipe .0 ≡ 0 = omega arith in waits-first some r first t
       ])
 
-module _ (slots : Slots) where
-  -- the walk, one slot more
-  pub running-more : (n : ℕ) {many : ℕ} → many ≡ runningBelow slots n → many + if (slotAt slots n .running) 1 0 ≡ runningBelow slots (n + 1)
-  unfolding runningBelow
-  running-more n h = rw (add-one n, h) (omega arith)
+-- and so is its test of a slot's worker
+pub worker-is : (workers : ℕ) (s : Slot) → if (s .running) (ltb (s .worker .0) workers) (eqb (s .worker .0) 0) ≡ workerSound workers s
+unfolding workerSound
+worker-is workers s = refl
 
-  module _ (pipes lines tokens : ℕ) where
+module _ (slots : Slots) (worker : ℕ) where
+  -- the walk, at its start and one slot more
+  pub works-none : false ≡ atWork slots worker 0
+  unfolding atWork
+  works-none = refl
+
+  pub works-more : (n : ℕ) {here before : Bool} → here ≡ runBy worker (slotAt slots n) → before ≡ atWork slots worker n →
+      if here true before ≡ atWork slots worker (n + 1)
+  unfolding atWork
+  works-more n h b = rw (add-one n, h, b)
+
+  module _ (pipes lines tokens workers : ℕ) where
     -- a line that the plan does not have is idle
-    spare-idle : (l : ℕ) → lines ≤ l → slotSound pipes lines tokens slots l ≡ true → isIdle (slotAt slots l) ≡ true
+    spare-idle : (l : ℕ) → lines ≤ l → slotSound pipes lines tokens workers slots l ≡ true → isIdle (slotAt slots l) ≡ true
     unfolding slotSound
     spare-idle l h e = by-test (isIdle (slotAt slots l))
         (λ i. i)
-        (λ i. absurd (true≢false (sym (rw (i, le-ltb l lines h) at e))))
+        (λ i. absurd (true≢false (sym (rw (i, le-ltb l lines h) at (rest-hold (workerSound workers (slotAt slots l)) _ e)))))
 
-    -- so no more lines run than the plan's
-    pub running-all : (n : ℕ) → lines ≤ n → every n (slotSound pipes lines tokens slots) ≡ true → runningBelow slots n ≡ runningBelow slots lines
-    unfolding every runningBelow
-    running-all zero h e = let none : lines ≡ 0 = omega arith in rw none
-    running-all (suc n) h e = by-cases (ℕ-discrete lines (suc n))
+    -- so a worker runs none but the plan's lines
+    pub works-all : (n : ℕ) → lines ≤ n → every n (slotSound pipes lines tokens workers slots) ≡ true → atWork slots worker n ≡ atWork slots worker lines
+    unfolding every atWork
+    works-all zero h e = let none : lines ≡ 0 = omega arith in rw none
+    works-all (suc n) h e = by-cases (ℕ-discrete lines (suc n))
         (λ same. rw same)
         (λ less.
         let rests : slotAt slots n .running ≡ false =
-        idle-rests (slotAt slots n) (spare-idle n (omega arith) (first-holds (slotSound pipes lines tokens slots n) _ e)) in
-        rw rests (omega (arith, running-all n (omega arith) (rest-hold (slotSound pipes lines tokens slots n) _ e))))
+        idle-rests (slotAt slots n) (spare-idle n (omega arith) (first-holds (slotSound pipes lines tokens workers slots n) _ e)) in
+        rw rests (works-all n (omega arith) (rest-hold (slotSound pipes lines tokens workers slots n) _ e)))
 
     -- the walk is at its end
-    pub tally-is : {n running : ℕ} {sound : Bool} → n ≡ 32 → sound ≡ every n (slotSound pipes lines tokens slots) → running ≡ runningBelow slots n →
-        record { sound = sound; running = running } ≡ tallyOf slots pipes lines tokens
-    unfolding tallyOf
-    tally-is n-is s r = rw (s, r, n-is)
+    pub found-is : {n : ℕ} {sound busy : Bool} → n ≡ 32 → sound ≡ every n (slotSound pipes lines tokens workers slots) → busy ≡ atWork slots worker n →
+        record { sound = sound; busy = busy } ≡ foundOf slots pipes lines tokens workers worker
+    unfolding foundOf
+    found-is n-is s b = rw (s, b, n-is)

@@ -6,7 +6,7 @@ use Prim.Native.Nat.{ℕ, _<_}
 use borrow.Author.Tests.{lt-ltb}
 use Rattle.vocabulary.specs.declared.Slots.{Slots}
 use Rattle.rules.specs.RunState.{slotAt}
-use Rattle.rules.specs.Choices.{runningBelow}
+use Rattle.rules.specs.Choices.{atWork}
 use Rattle.rules.specs.Ranges.{sound}
 use Rattle.rules.proofs.lists.Tests.{by-test}
 use Rattle.tables.specs.Calls.{memorySource}
@@ -15,7 +15,8 @@ use Rattle.ranges.specs.declared.Survey.{Survey}
 use Rattle.state.specs.Machines.{machineOf, whole}
 use Rattle.ranges.specs.Surveys.{near, spoiled, surveyOf}
 
-module _ (f : Figures) (counters : List ℕ) (slots : Slots) (mem : List ℕ) (line : ℕ) {r : Survey} (r-is : r ≡ surveyOf f counters slots mem line) where
+module _ (f : Figures) (counters : List ℕ) (slots : Slots) (mem : List ℕ) (worker line : ℕ) {r : Survey}
+    (r-is : r ≡ surveyOf f counters slots mem worker line) where
   abbrev soundHere : Bool
   soundHere = sound memorySource (machineOf (whole f counters slots) mem)
 
@@ -28,10 +29,10 @@ module _ (f : Figures) (counters : List ℕ) (slots : Slots) (mem : List ℕ) (l
     is-sound : soundHere ≡ true
     is-sound = sym tells-sound ∙ ok
 
-    -- how many lines run
-    pub tells-running : r .running ≡ runningBelow slots (f .lines)
+    -- whether the chosen worker runs a line
+    pub tells-busy : r .busy ≡ atWork slots worker (f .lines)
     unfolding surveyOf
-    tells-running = ap (λ s. s .running) r-is ∙ rw is-sound
+    tells-busy = ap (λ s. s .busy) r-is ∙ rw is-sound
 
     -- what the chosen line does
     pub tells-slot : line < 32 → r .slot ≡ slotAt slots line

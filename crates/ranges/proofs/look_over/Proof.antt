@@ -17,7 +17,7 @@ unsound-requires c κs = search needs
 returns : tie.Need-returns
 returns c =
     let at-if1 = c .before in
-    c .unsound .ensures ∙ laws.rest-fails _ _ _ _ _ (at-if1 .before .rest-sound .ensures) (not-true _ (at-if1 .if1 .taken))
+    c .unsound .ensures ∙ laws.rest-fails _ _ _ _ _ _ (at-if1 .before .rest-sound .ensures) (not-true _ (at-if1 .if1 .taken))
 
 walk-requires : tie.Need-walk-requires
 walk-requires c κs = laws.pipes-some _ (laws.figures-ok _ _ _ (c .before .rest-sound .ensures) (not-false _ (c .if1 .left)))
@@ -31,41 +31,47 @@ returns-2 c =
     let after-walk = at-if2 .before .before in
     let at-if1 = after-walk .before in
     c .unsound2 .ensures ∙
-    laws.slots-fail _ _ _ _ _ (at-if1 .before .rest-sound .ensures) (not-false _ (at-if1 .if1 .left)) (after-walk .walk .ensures)
+    laws.slots-fail _ _ _ _ _ _ (at-if1 .before .rest-sound .ensures) (not-false _ (at-if1 .if1 .left)) (after-walk .walk .ensures)
     (not-true _ (at-if2 .if2 .taken))
 
 near-requires : tie.Need-near-requires
 near-requires c κs = search needs
 
-mul-t13 : tie.Need-mul-t13
-mul-t13 c = omega arith
+mul-t14 : tie.Need-mul-t14
+mul-t14 c = omega arith
 
-element-copy-out-t16 : tie.Need-element-copy-out-t16
-element-copy-out-t16 c = omega arith
+element-copy-out-t17 : tie.Need-element-copy-out-t17
+element-copy-out-t17 c = omega arith
 
-element-copy-out-t11 : tie.Need-element-copy-out-t11
-element-copy-out-t11 c = omega arith
+element-copy-out-t12 : tie.Need-element-copy-out-t12
+element-copy-out-t12 c = omega arith
 
-mul-t19 : tie.Need-mul-t19
-mul-t19 c = omega arith
+mul-t20 : tie.Need-mul-t20
+mul-t20 c = omega arith
 
-element-copy-out-t22 : tie.Need-element-copy-out-t22
-element-copy-out-t22 c = omega arith
+element-copy-out-t23 : tie.Need-element-copy-out-t23
+element-copy-out-t23 c = omega arith
 
-mul-t23 : tie.Need-mul-t23
-mul-t23 c = omega arith
+mul-t24 : tie.Need-mul-t24
+mul-t24 c = omega arith
 
-element-copy-out-t26 : tie.Need-element-copy-out-t26
-element-copy-out-t26 c = omega arith
+element-copy-out-t27 : tie.Need-element-copy-out-t27
+element-copy-out-t27 c = omega arith
+
+mul-t28 : tie.Need-mul-t28
+mul-t28 c = omega arith
+
+element-copy-out-t31 : tie.Need-element-copy-out-t31
+element-copy-out-t31 c = omega arith
 
 returns-3 : tie.Need-returns-3
 unfolding slotAt
 returns-3 c =
-    let after-near = c .before .before .before .before in
+    let after-near = c .before .before .before .before .before in
     let at-if2 = after-near .before in
     let after-walk = at-if2 .before .before in
     let at-if1 = after-walk .before in
-    laws.told _ _ _ _ _ (at-if1 .before .rest-sound .ensures) (not-false _ (at-if1 .if1 .left)) (after-walk .walk .ensures)
+    laws.told _ _ _ _ _ _ (at-if1 .before .rest-sound .ensures) (not-false _ (at-if1 .if1 .left)) (after-walk .walk .ensures)
     (not-false _ (at-if2 .if2 .left)) (after-near .near .ensures .0)
 
 pub look-over-spec : {M : Type 1} → statement M
@@ -79,11 +85,13 @@ look-over-spec =
     unsound-requires-2
     returns-2
     near-requires
-    mul-t13
-    element-copy-out-t16
-    element-copy-out-t11
-    mul-t19
-    element-copy-out-t22
-    mul-t23
-    element-copy-out-t26
+    mul-t14
+    element-copy-out-t17
+    element-copy-out-t12
+    mul-t20
+    element-copy-out-t23
+    mul-t24
+    element-copy-out-t27
+    mul-t28
+    element-copy-out-t31
     returns-3)

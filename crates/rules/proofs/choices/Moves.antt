@@ -6,6 +6,7 @@ use Prim.Native.Nat.{ℕ, suc, _+_, _*_, _<_}
 use native.Mathlib.Omega.{arith}
 use lib.ListN.{length, getD, set}
 use borrow.Author.Tests.{eq-eqb, ne-eqb, lt-ltb}
+use Rattle.vocabulary.specs.declared.Slot.{Slot}
 use Rattle.rules.specs.RunState.{Pipeline, idle, runs, waits, slotAt, putSlot, full}
 use Rattle.rules.specs.Choices.{Chosen, Answer, Started, Finished, Stopped, next, moved}
 use Rattle.rules.specs.Sources.{Source}
@@ -66,38 +67,38 @@ module _ {X : Type 0} (S : Source X) (plan : Pipeline) (workers : ℕ) (order : 
   -- a choice has this answer and leaves this state
   pub record Next (c : Chosen X) (a : Answer) (st : State X) (g : Standing) : Type 0 where
     pub is : c ≡ record { answer = a; machine = whole plan workers st }
-    pub kept : Inv S plan order z st g
+    pub kept : Inv S plan workers order z st g
 
   -- the answer of such a choice
   pub next-answer : {c : Chosen X} {a : Answer} {st : State X} {g : Standing} → Next c a st g → c .answer ≡ a
   next-answer n = ap (λ (c : Chosen X). c .answer) (n .is)
 
-  -- what an accepted choice of line l does
-  pub data Move (st : State X) (g : Standing) (l : ℕ) (c : Chosen X) : Type 0 where
-    stops : (st′ : State X) → Stops plan order st g l st′ → Next c (Stopped l) st′ (begin g l) → Move st g l c
+  -- what an accepted choice of worker w and line l does
+  pub data Move (st : State X) (g : Standing) (w l : ℕ) (c : Chosen X) : Type 0 where
+    stops : (st′ : State X) → Stops plan order st g l st′ → Next c (Stopped l w) st′ (begin g l) → Move st g w l c
     enters : (st′ : State X) → Enters plan order st g l st′ →
-        Next c (Started l 0 (getD order (g .place l) 0) (g .place l)) st′ (begin g l) → Move st g l c
+        Next c (Started l 0 (getD order (g .place l) 0) (g .place l) w) st′ (begin g l) → Move st g w l c
     starts : (st′ : State X) → Starts plan order st g l st′ →
-        Next c (Started l (g .pipe l) (getD order (g .place l) 0) (g .place l)) st′ (begin g l) → Move st g l c
+        Next c (Started l (g .pipe l) (getD order (g .place l) 0) (g .place l) w) st′ (begin g l) → Move st g w l c
     finishes : (st′ : State X) → Finishes plan order st g l st′ →
-        Next c (Finished l (g .pipe l) (getD order (g .place l) 0) (g .place l)) st′ (finish plan g l) → Move st g l c
+        Next c (Finished l (g .pipe l) (getD order (g .place l) 0) (g .place l) w) st′ (finish plan g l) → Move st g w l c
 
 module _ {X : Type 0} {S : Source X} {plan : Pipeline} {workers : ℕ} {order : List ℕ} {z : X} (ok : Allowed plan workers order)
-    {st : State X} {g : Standing} (inv : Inv S plan order z st g) (l : ℕ) (i : l < plan .lines) where
-  module _ (b : g .busy l ≡ true) (n : st .stopped ≡ true → g .pipe l ≡ 0 → ⊥) where
+    {st : State X} {g : Standing} (inv : Inv S plan workers order z st g) (w : ℕ) (manned : w < workers) (l : ℕ) (i : l < plan .lines) where
+  module _ (b : g .busy l ≡ true) (n : st .stopped ≡ true → g .pipe l ≡ 0 → ⊥) (own : slotAt (st .slots) l .worker .0 ≡ w) where
     -- the machine that a finish leaves, with what the source has become
     leaves : List ℕ → X → State X
     leaves c x = record {
       counters = c;
-      slots = putSlot (st .slots) l (moved (plan .pipes) (runs (g .pipe l) (getD order (g .place l) 0) (g .place l)));
+      slots = putSlot (st .slots) l (moved (plan .pipes) (runs (g .pipe l) (getD order (g .place l) 0) (g .place l) w));
       placed = st .placed;
       stopped = st .stopped;
       source = x;
     }
 
     finished : (x : X) → (c : List ℕ) × Tallied plan c (finish plan g l) ×
-        (finishWith S (whole plan workers st) l (runs (g .pipe l) (getD order (g .place l) 0) (g .place l)) x ≡
-        record { answer = Finished l (g .pipe l) (getD order (g .place l) 0) (g .place l); machine = whole plan workers (leaves c x) })
+        (finishWith S (whole plan workers st) l (runs (g .pipe l) (getD order (g .place l) 0) (g .place l) w) x ≡
+        record { answer = Finished l (g .pipe l) (getD order (g .place l) 0) (g .place l) w; machine = whole plan workers (leaves c x) })
     unfolding finishWith settle leaves
     finished x = elim (see (serialAt plan (g .pipe l))) [
       | holds s ↦
@@ -109,11 +110,15 @@ module _ {X : Type 0} {S : Source X} {plan : Pipeline} {workers : ℕ} {order : 
           (_, r .1, rw (s, pos-eqb (r .0)))
     ]
 
-    slot-here : slotAt (st .slots) l ≡ runs (g .pipe l) (getD order (g .place l) 0) (g .place l)
-    slot-here = inv .slotted .used l i ∙ shown-runs order (st .stopped) g l n b
+    slot-here : slotAt (st .slots) l ≡ runs (g .pipe l) (getD order (g .place l) 0) (g .place l) w
+    slot-here =
+        let u = inv .slotted .used l i in
+        let e : slotAt (st .slots) l ≡ runs (g .pipe l) (getD order (g .place l) 0) (g .place l) (u .worker) =
+        u .is ∙ shown-runs order (st .stopped) g l (u .worker) n b in
+        e ∙ ap (runs (g .pipe l) (getD order (g .place l) 0) (g .place l)) (sym (ap (λ (s : Slot). s .worker .0) e) ∙ own)
 
     -- a finish past pipe 0
-    later-finish : (m : g .pipe l ≡ 0 → ⊥) → Move S plan workers order z st g l (finishMachine S (whole plan workers st) l)
+    later-finish : (m : g .pipe l ≡ 0 → ⊥) → Move S plan workers order z st g w l (finishMachine S (whole plan workers st) l)
     unfolding finishMachine leaves
     later-finish m =
         let r = finished (st .source) in
@@ -123,7 +128,7 @@ module _ {X : Type 0} {S : Source X} {plan : Pipeline} {workers : ℕ} {order : 
           kept = record {
             good = finish-good (ok .ranged) g l b (inv .good) i;
             tally = r .1;
-            slotted = finish-slotted (ok .ranged) (inv .slotted) l i b;
+            slotted = finish-slotted (ok .ranged) (inv .slotted) l i w manned b;
             feed = finish-feed (ok .ranged) l _ _ b m (inv .feed);
           };
         })
@@ -139,12 +144,12 @@ module _ {X : Type 0} {S : Source X} {plan : Pipeline} {workers : ℕ} {order : 
     ]
 
     -- a finish at pipe 0, of the token that was placed last
-    first-finish : g .pipe l ≡ 0 → Move S plan workers order z st g l (finishMachine S (whole plan workers st) l)
+    first-finish : g .pipe l ≡ 0 → Move S plan workers order z st g w l (finishMachine S (whole plan workers st) l)
     unfolding finishMachine finishFirst leaves
     first-finish e = elim (inv .feed) [
-      | free s p none m w ↦ absurd (none l (record { within = i; first = e; runs = b }))
+      | free s p none m y ↦ absurd (none l (record { within = i; first = e; runs = b }))
       | closed j f s p m o q ↦ absurd (n s e)
-      | taken {x = x} j f s p m o q w ↦
+      | taken {x = x} j f s p m o q y ↦
           let k : g .place l ≡ g .passed 0 = first-held (ok .ranged) inv l (record { within = i; first = e; runs = b }) in
           let r = finished x in
           let p0 : finish plan g l .passed 0 ≡ suc (g .passed 0) =
@@ -156,14 +161,14 @@ module _ {X : Type 0} {S : Source X} {plan : Pipeline} {workers : ℕ} {order : 
             kept = record {
               good = finish-good (ok .ranged) g l b (inv .good) i;
               tally = r .1;
-              slotted = finish-slotted (ok .ranged) (inv .slotted) l i b;
-              feed = free s (p ∙ sym p0) (nobody e) (rw p0 m) (rw p0 w);
+              slotted = finish-slotted (ok .ranged) (inv .slotted) l i w manned b;
+              feed = free s (p ∙ sym p0) (nobody e) (rw p0 m) (rw p0 y);
             };
           })
     ]
 
     -- a running line's finish is a move
-    pub finish-move : Move S plan workers order z st g l (finishMachine S (whole plan workers st) l)
+    pub finish-move : Move S plan workers order z st g w l (finishMachine S (whole plan workers st) l)
     finish-move = elim (sameAs (g .pipe l) 0) [ same e t ↦ first-finish e | other m t ↦ later-finish m ]
 
   module _ (b : g .busy l ≡ false) (c : getD (st .counters) (16 * l + g .pipe l) 0 ≡ 0) where
@@ -174,14 +179,14 @@ module _ {X : Type 0} {S : Source X} {plan : Pipeline} {workers : ℕ} {order : 
     ready = record { within = i; waits = b; turns = turn-here }
 
     -- a start past pipe 0
-    later-start : (g .pipe l ≡ 0 → ⊥) → Move S plan workers order z st g l (start S (whole plan workers st) l)
+    later-start : (g .pipe l ≡ 0 → ⊥) → Move S plan workers order z st g w l (start S (whole plan workers st) w l)
     unfolding start startLater
     later-start m =
         let slot : slotAt (st .slots) l ≡ waits (g .pipe l) (getD order (g .place l) 0) (g .place l) =
-        inv .slotted .used l i ∙ shown-waits order (st .stopped) g l m b in
+        inv .slotted .used l i .is ∙ shown-waits order (st .stopped) g l (inv .slotted .used l i .worker) m b in
         starts (record {
           counters = set (st .counters) (16 * l + g .pipe l) (full (serialAt plan (g .pipe l)));
-          slots = putSlot (st .slots) l (runs (g .pipe l) (getD order (g .place l) 0) (g .place l));
+          slots = putSlot (st .slots) l (runs (g .pipe l) (getD order (g .place l) 0) (g .place l) w);
           placed = st .placed;
           stopped = st .stopped;
           source = st .source;
@@ -191,14 +196,14 @@ module _ {X : Type 0} {S : Source X} {plan : Pipeline} {workers : ℕ} {order : 
           kept = record {
             good = begin-good (ok .ranged) g l b (inv .good) i turn-here;
             tally = begin-tally (ok .ranged) (inv .tally) (inv .good) l i b turn-here;
-            slotted = begin-slotted (ok .ranged) (inv .slotted) l i b (λ s e. m e);
+            slotted = begin-slotted (ok .ranged) (inv .slotted) l i w manned b (λ s e. m e);
             feed = begin-feed (ok .ranged) l _ _ b m (inv .feed);
           };
         })
 
     module _ (e : g .pipe l ≡ 0) where
       slot-idle : slotAt (st .slots) l ≡ idle
-      slot-idle = inv .slotted .used l i ∙ shown-idle order (st .stopped) g l e b
+      slot-idle = inv .slotted .used l i .is ∙ shown-idle order (st .stopped) g l (inv .slotted .used l i .worker) e b
 
       place-next : g .place l ≡ g .passed 0
       place-next = turn-here (ap (serialAt plan) e ∙ ok .ranged .first-serial) ∙ ap (g .passed) e
@@ -215,12 +220,12 @@ module _ {X : Type 0} {S : Source X} {plan : Pipeline} {workers : ℕ} {order : 
       unfolding begin
       first-runs = record { within = i; first = e; runs = begin-busy (ok .ranged) g l b }
 
-      first-start : Move S plan workers order z st g l (start S (whole plan workers st) l)
+      first-start : Move S plan workers order z st g w l (start S (whole plan workers st) w l)
       unfolding start startFirst begin
       first-start = elim (inv .feed) [
-        | taken j f s p m o q w ↦ absurd (nobody-first j f)
+        | taken j f s p m o q y ↦ absurd (nobody-first j f)
         | closed j f s p m o q ↦ absurd (nobody-first j f)
-        | free s p none m w ↦ elim (pull S order z (g .passed 0) m w refl) [
+        | free s p none m y ↦ elim (pull S order z (g .passed 0) m y refl) [
           | ends t o q ↦
               stops (record {
                 counters = set (st .counters) (16 * l + 0) (full (serialAt plan 0));
@@ -241,7 +246,7 @@ module _ {X : Type 0} {S : Source X} {plan : Pipeline} {workers : ℕ} {order : 
           | gives y x h t o q v ↦
               enters (record {
                 counters = set (st .counters) (16 * l + 0) (full (serialAt plan 0));
-                slots = putSlot (st .slots) l (runs 0 (getD order (g .place l) 0) (g .place l));
+                slots = putSlot (st .slots) l (runs 0 (getD order (g .place l) 0) (g .place l) w);
                 placed = suc (st .placed);
                 stopped = st .stopped;
                 source = y;
@@ -251,7 +256,7 @@ module _ {X : Type 0} {S : Source X} {plan : Pipeline} {workers : ℕ} {order : 
                 kept = record {
                   good = begin-good (ok .ranged) g l b (inv .good) i turn-here;
                   tally = first-tally;
-                  slotted = rw e at (begin-slotted (ok .ranged) (inv .slotted) l i b (λ a d. never (sym a ∙ s)));
+                  slotted = rw e at (begin-slotted (ok .ranged) (inv .slotted) l i w manned b (λ a d. never (sym a ∙ s)));
                   feed = taken {x = x} l first-runs s (ap suc p) h o q v;
                 };
               })
@@ -259,5 +264,5 @@ module _ {X : Type 0} {S : Source X} {plan : Pipeline} {workers : ℕ} {order : 
       ]
 
     -- a waiting line's start is a move
-    pub start-move : Move S plan workers order z st g l (start S (whole plan workers st) l)
+    pub start-move : Move S plan workers order z st g w l (start S (whole plan workers st) w l)
     start-move = elim (sameAs (g .pipe l) 0) [ same e t ↦ first-start e | other m t ↦ later-start m ]

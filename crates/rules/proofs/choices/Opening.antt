@@ -11,7 +11,7 @@ use borrow.Author.Tests.{ne-eqb, le-ltb}
 use Rattle.rules.specs.RunState.{Pipeline, allIdle, full}
 use Rattle.rules.specs.Sources.{Source, Writes}
 use Rattle.rules.specs.Choices.{openedCounter, tabled}
-use Rattle.rules.specs.WholeRuns.{PipelineInRange}
+use Rattle.rules.specs.WholeRuns.{PipelineInRange, WorkersInRange}
 use Rattle.rules.proofs.lists.Tests.{same, other, sameAs, lower, upper, below, holds, fails, see, never}
 use Rattle.rules.proofs.lists.SlotRows.{sized-idle, each-idle}
 use Rattle.rules.proofs.standing.Standing.{Standing, Good, serialAt, waiting, turn, toStart, toFinish, reached}
@@ -77,13 +77,14 @@ module _ {plan : Pipeline} (ranged : PipelineInRange plan) where
       }
 
   -- so the invariant holds
-  pub opening-inv : {X : Type 0} {S : Source X} {x z : X} {order : List ℕ} → Writes S x order z → Inv S plan order z (opening plan x) at-opening
-  opening-inv {order = order} writes = record {
+  pub opening-inv : {X : Type 0} {S : Source X} {workers : ℕ} {x z : X} {order : List ℕ} → WorkersInRange workers → Writes S x order z →
+      Inv S plan workers order z (opening plan x) at-opening
+  opening-inv {order = order} manned writes = record {
     good = opening-good;
     tally = opening-tally;
     slotted = record {
       size = sized-idle;
-      used = λ l h. each-idle l ∙ sym (shown-idle order false at-opening l refl refl);
+      used = λ l h. record { worker = 0; manned = manned .some; is = each-idle l ∙ sym (shown-idle order false at-opening l 0 refl refl) };
       spare = λ l h. each-idle l;
     };
     feed = free refl refl (λ l f. never (sym (f .runs))) (omega arith) writes;

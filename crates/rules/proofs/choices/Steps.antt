@@ -5,13 +5,13 @@ use mathlib.Core.List.{List}
 use Prim.Native.Nat.{ℕ, _+_, _*_, _≤_, _<_}
 use native.Mathlib.Omega.{arith}
 use lib.ListN.{getD}
-use borrow.Author.Tests.{lt-ltb, le-ltb}
+use borrow.Author.Tests.{lt-ltb, le-ltb, eq-eqb, ne-eqb}
 use Rattle.vocabulary.specs.declared.Slot.{Slot}
 use Rattle.rules.specs.RunState.{Pipeline, Machine, slotAt, slotOf, counterOf}
 use Rattle.rules.specs.Choices.{Chosen, refuse}
 use Rattle.rules.specs.Sources.{Source}
 use Rattle.rules.specs.Ranges.{sound}
-use Rattle.rules.specs.Choices.{ended, runningBelow, start, move, choose}
+use Rattle.rules.specs.Choices.{ended, atWork, start, move, choose}
 use Rattle.rules.specs.Choices.{finish as finishMachine}
 use Rattle.rules.proofs.lists.Tests.{same, other, sameAs, lower, upper, below, holds, fails, see, pos-eqb, never}
 use Rattle.rules.proofs.standing.Standing.{Standing, serialAt, waiting, turn, start-busy, turn-no}
@@ -22,44 +22,53 @@ use Rattle.rules.proofs.invariant.Sound.{is-sound}
 use Rattle.rules.proofs.choices.Moves.{Move, finish-move, start-move}
 
 -- the cases of a choice, one after the other
-module _ {X : Type 0} (S : Source X) (m : Machine X) (l : ℕ) (ok : sound S m ≡ true) where
-  far : m .lines ≤ l → choose S m l ≡ refuse m 10
+module _ {X : Type 0} (S : Source X) (m : Machine X) (w l : ℕ) (ok : sound S m ≡ true) where
+  far : m .lines ≤ l → choose S m w l ≡ refuse m 10
   unfolding choose
   far h = rw (ok, le-ltb l (m .lines) h)
 
-  over : l < m .lines → ended m ≡ true → choose S m l ≡ refuse m 11
+  unknown : l < m .lines → m .workers ≤ w → choose S m w l ≡ refuse m 26
   unfolding choose
-  over h e = rw (ok, lt-ltb l (m .lines) h, e)
+  unknown h d = rw (ok, lt-ltb l (m .lines) h, le-ltb w (m .workers) d)
 
-  module _ (h : l < m .lines) (e : ended m ≡ false) where
-    -- a running line finishes
-    pub running-choice : slotOf m l .running ≡ true → choose S m l ≡ finishMachine S m l
-    unfolding choose move
-    running-choice r = rw (ok, lt-ltb l (m .lines) h, e, r)
+  over : l < m .lines → w < m .workers → ended m ≡ true → choose S m w l ≡ refuse m 11
+  unfolding choose
+  over h d e = rw (ok, lt-ltb l (m .lines) h, lt-ltb w (m .workers) d, e)
+
+  module _ (h : l < m .lines) (d : w < m .workers) (e : ended m ≡ false) where
+    module _ (r : slotOf m l .running ≡ true) where
+      -- a running line finishes, by its worker
+      pub running-choice : slotOf m l .worker .0 ≡ w → choose S m w l ≡ finishMachine S m l
+      unfolding choose move
+      running-choice o = rw (ok, lt-ltb l (m .lines) h, lt-ltb w (m .workers) d, e, r, eq-eqb (slotOf m l .worker .0) w o)
+
+      another : (slotOf m l .worker .0 ≡ w → ⊥) → choose S m w l ≡ refuse m 26
+      unfolding choose move
+      another o = rw (ok, lt-ltb l (m .lines) h, lt-ltb w (m .workers) d, e, r, ne-eqb (slotOf m l .worker .0) w o)
 
     module _ (r : slotOf m l .running ≡ false) where
-      early : 0 < counterOf m l (slotOf m l .pipe .0) → choose S m l ≡ refuse m 12
+      early : 0 < counterOf m l (slotOf m l .pipe .0) → choose S m w l ≡ refuse m 12
       unfolding choose move
-      early c = rw (ok, lt-ltb l (m .lines) h, e, r, pos-eqb c)
+      early c = rw (ok, lt-ltb l (m .lines) h, lt-ltb w (m .workers) d, e, r, pos-eqb c)
 
       module _ (c : counterOf m l (slotOf m l .pipe .0) ≡ 0) where
-        crowded : m .workers ≤ runningBelow (m .slots) (m .lines) → choose S m l ≡ refuse m 13
+        occupied : atWork (m .slots) w (m .lines) ≡ true → choose S m w l ≡ refuse m 13
         unfolding choose move
-        crowded w = rw (ok, lt-ltb l (m .lines) h, e, r, c, le-ltb (runningBelow (m .slots) (m .lines)) (m .workers) w)
+        occupied o = rw (ok, lt-ltb l (m .lines) h, lt-ltb w (m .workers) d, e, r, c, o)
 
-        -- a waiting line starts
-        pub waiting-choice : runningBelow (m .slots) (m .lines) < m .workers → choose S m l ≡ start S m l
+        -- a waiting line starts, by an idle worker
+        pub waiting-choice : atWork (m .slots) w (m .lines) ≡ false → choose S m w l ≡ start S m w l
         unfolding choose move
-        waiting-choice w = rw (ok, lt-ltb l (m .lines) h, e, r, c, lt-ltb (runningBelow (m .slots) (m .lines)) (m .workers) w)
+        waiting-choice o = rw (ok, lt-ltb l (m .lines) h, lt-ltb w (m .workers) d, e, r, c, o)
 
 module _ {X : Type 0} (S : Source X) (plan : Pipeline) (workers : ℕ) (order : List ℕ) (z : X) where
-  -- what a choice of line l does
-  pub data Step (st : State X) (g : Standing) (l : ℕ) (c : Chosen X) : Type 0 where
-    refuses : (n : ℕ) → (n ≡ 14 → ⊥) → c ≡ refuse (whole plan workers st) n → Step st g l c
-    moves : Move S plan workers order z st g l c → Step st g l c
+  -- what a choice of worker w and line l does
+  pub data Step (st : State X) (g : Standing) (w l : ℕ) (c : Chosen X) : Type 0 where
+    refuses : (n : ℕ) → (n ≡ 14 → ⊥) → c ≡ refuse (whole plan workers st) n → Step st g w l c
+    moves : Move S plan workers order z st g w l c → Step st g w l c
 
 module _ {X : Type 0} {S : Source X} {plan : Pipeline} {workers : ℕ} {order : List ℕ} {z : X} (ok : Allowed plan workers order)
-    {st : State X} {g : Standing} (inv : Inv S plan order z st g) where
+    {st : State X} {g : Standing} (inv : Inv S plan workers order z st g) where
   -- the machine is sound
   pub sound-here : sound S (whole plan workers st) ≡ true
   sound-here = is-sound ok inv
@@ -67,19 +76,27 @@ module _ {X : Type 0} {S : Source X} {plan : Pipeline} {workers : ℕ} {order : 
   module _ (l : ℕ) (i : l < plan .lines) where
     -- the pipe that a line's slot says
     pub slot-pipe : slotAt (st .slots) l .pipe .0 ≡ g .pipe l
-    slot-pipe = ap (λ (s : Slot). s .pipe .0) (inv .slotted .used l i) ∙ shown-pipe order (st .stopped) g l
+    slot-pipe = ap (λ (s : Slot). s .pipe .0) (inv .slotted .used l i .is) ∙ shown-pipe order (st .stopped) g l _
 
     -- a line that is not busy does not run
     pub slot-rests : g .busy l ≡ false → slotAt (st .slots) l .running ≡ false
-    slot-rests b = ap (λ (s : Slot). s .running) (inv .slotted .used l i) ∙ shown-rests order (st .stopped) g l b
+    slot-rests b = ap (λ (s : Slot). s .running) (inv .slotted .used l i .is) ∙ shown-rests order (st .stopped) g l _ b
 
     -- a busy line runs
     pub slot-runs : g .busy l ≡ true → (st .stopped ≡ true → g .pipe l ≡ 0 → ⊥) → slotAt (st .slots) l .running ≡ true
-    slot-runs b n = ap (λ (s : Slot). s .running) (inv .slotted .used l i ∙ shown-runs order (st .stopped) g l n b)
+    slot-runs b n = ap (λ (s : Slot). s .running) (inv .slotted .used l i .is ∙ shown-runs order (st .stopped) g l _ n b)
+
+    -- by one of the workers
+    pub slot-manned : g .busy l ≡ true → (st .stopped ≡ true → g .pipe l ≡ 0 → ⊥) → slotAt (st .slots) l .worker .0 < workers
+    slot-manned b n =
+        let u = inv .slotted .used l i in
+        let e : slotAt (st .slots) l .worker .0 ≡ u .worker =
+        ap (λ (s : Slot). s .worker .0) (u .is ∙ shown-runs order (st .stopped) g l (u .worker) n b) in
+        omega (arith, u .manned)
 
     -- unless it has stopped
     pub slot-stopped : g .busy l ≡ true → st .stopped ≡ true → g .pipe l ≡ 0 → slotAt (st .slots) l .running ≡ false
-    slot-stopped b s e = ap (λ (s : Slot). s .running) (inv .slotted .used l i ∙ shown-stopped order (st .stopped) g l e b s)
+    slot-stopped b s e = ap (λ (s : Slot). s .running) (inv .slotted .used l i .is ∙ shown-stopped order (st .stopped) g l _ e b s)
 
     -- the counter of a line that is busy is full
     pub busy-full : g .busy l ≡ true → serialAt plan (g .pipe l) ≡ true → getD (st .counters) (16 * l + g .pipe l) 0 ≡ 2
@@ -94,48 +111,59 @@ module _ {X : Type 0} {S : Source X} {plan : Pipeline} {workers : ℕ} {order : 
     counter-here : counterOf (whole plan workers st) l (slotOf (whole plan workers st) l .pipe .0) ≡ getD (st .counters) (16 * l + g .pipe l) 0
     counter-here = rw slot-pipe
 
-    module _ (e : ended (whole plan workers st) ≡ false) where
-      -- the choice of a running line is a move
-      pub runs-move : g .busy l ≡ true → (st .stopped ≡ true → g .pipe l ≡ 0 → ⊥) → Move S plan workers order z st g l (choose S (whole plan workers st) l)
-      runs-move b n = rw (running-choice S (whole plan workers st) l sound-here i e (slot-runs b n))
-          (finish-move ok inv l i b n)
+    module _ (e : ended (whole plan workers st) ≡ false) (w : ℕ) (d : w < workers) where
+      -- the choice of a running line, by its worker, is a move
+      pub runs-move : g .busy l ≡ true → (st .stopped ≡ true → g .pipe l ≡ 0 → ⊥) → slotAt (st .slots) l .worker .0 ≡ w →
+          Move S plan workers order z st g w l (choose S (whole plan workers st) w l)
+      runs-move b n o = rw (running-choice S (whole plan workers st) w l sound-here i d e (slot-runs b n) o)
+          (finish-move ok inv w d l i b n o)
 
-      -- the choice of a waiting line with counter 0 is a move, if a worker is free
-      pub waits-move : g .busy l ≡ false → getD (st .counters) (16 * l + g .pipe l) 0 ≡ 0 → runningBelow (st .slots) (plan .lines) < workers →
-          Move S plan workers order z st g l (choose S (whole plan workers st) l)
-      waits-move b c w = rw (waiting-choice S (whole plan workers st) l sound-here i e (slot-rests b) (counter-here ∙ c) w)
-          (start-move ok inv l i b c)
+      -- the choice of a waiting line with counter 0 is a move, if the worker is idle
+      pub waits-move : g .busy l ≡ false → getD (st .counters) (16 * l + g .pipe l) 0 ≡ 0 → atWork (st .slots) w (plan .lines) ≡ false →
+          Move S plan workers order z st g w l (choose S (whole plan workers st) w l)
+      waits-move b c o = rw (waiting-choice S (whole plan workers st) w l sound-here i d e (slot-rests b) (counter-here ∙ c) o)
+          (start-move ok inv w d l i b c)
 
-      waits-step : g .busy l ≡ false → Step S plan workers order z st g l (choose S (whole plan workers st) l)
+      waits-step : g .busy l ≡ false → Step S plan workers order z st g w l (choose S (whole plan workers st) w l)
       waits-step b = elim (sameAs (getD (st .counters) (16 * l + g .pipe l) 0) 0) [
-        | other n t ↦ refuses 12 (omega arith) (early S (whole plan workers st) l sound-here i e (slot-rests b) (rw slot-pipe (omega arith)))
-        | same c t ↦ elim (below (runningBelow (st .slots) (plan .lines)) workers) [
-          | lower w u ↦ moves (waits-move b c w)
-          | upper w u ↦ refuses 13 (omega arith) (crowded S (whole plan workers st) l sound-here i e (slot-rests b) (counter-here ∙ c) w)
+        | other n t ↦ refuses 12 (omega arith) (early S (whole plan workers st) w l sound-here i d e (slot-rests b) (rw slot-pipe (omega arith)))
+        | same c t ↦ elim (see (atWork (st .slots) w (plan .lines))) [
+          | fails o ↦ moves (waits-move b c o)
+          | holds o ↦ refuses 13 (omega arith) (occupied S (whole plan workers st) w l sound-here i d e (slot-rests b) (counter-here ∙ c) o)
         ]
       ]
 
       -- the line that stopped is refused
-      stopped-step : g .busy l ≡ true → st .stopped ≡ true → g .pipe l ≡ 0 → Step S plan workers order z st g l (choose S (whole plan workers st) l)
+      stopped-step : g .busy l ≡ true → st .stopped ≡ true → g .pipe l ≡ 0 → Step S plan workers order z st g w l (choose S (whole plan workers st) w l)
       stopped-step b s f =
           let two : getD (st .counters) (16 * l + g .pipe l) 0 ≡ 2 = busy-full b (ap (serialAt plan) f ∙ ok .ranged .first-serial) in
-          refuses 12 (omega arith) (early S (whole plan workers st) l sound-here i e (slot-stopped b s f) (rw slot-pipe (omega arith)))
+          refuses 12 (omega arith) (early S (whole plan workers st) w l sound-here i d e (slot-stopped b s f) (rw slot-pipe (omega arith)))
 
-      busy-step : g .busy l ≡ true → Step S plan workers order z st g l (choose S (whole plan workers st) l)
+      -- a running line's finish, by its worker or by another
+      runs-step : g .busy l ≡ true → (st .stopped ≡ true → g .pipe l ≡ 0 → ⊥) → Step S plan workers order z st g w l (choose S (whole plan workers st) w l)
+      runs-step b n = elim (sameAs (slotAt (st .slots) l .worker .0) w) [
+        | same o t ↦ moves (runs-move b n o)
+        | other o t ↦ refuses 26 (omega arith) (another S (whole plan workers st) w l sound-here i d e (slot-runs b n) o)
+      ]
+
+      busy-step : g .busy l ≡ true → Step S plan workers order z st g w l (choose S (whole plan workers st) w l)
       busy-step b = elim (see (st .stopped)) [
-        | fails s ↦ moves (runs-move b (λ t. absurd (never (sym t ∙ s))))
+        | fails s ↦ runs-step b (λ t. absurd (never (sym t ∙ s)))
         | holds s ↦ elim (sameAs (g .pipe l) 0) [
           | same f t ↦ stopped-step b s f
-          | other n t ↦ moves (runs-move b (λ u. n))
+          | other n t ↦ runs-step b (λ u. n)
         ]
       ]
 
   -- every choice is a step
-  pub step : (l : ℕ) → Step S plan workers order z st g l (choose S (whole plan workers st) l)
-  step l = elim (below l (plan .lines)) [
-    | upper h t ↦ refuses 10 (omega arith) (far S (whole plan workers st) l sound-here h)
-    | lower h t ↦ elim (see (ended (whole plan workers st))) [
-      | holds e ↦ refuses 11 (omega arith) (over S (whole plan workers st) l sound-here h e)
-      | fails e ↦ elim (see (g .busy l)) [ fails b ↦ waits-step l h e b | holds b ↦ busy-step l h e b ]
+  pub step : (w l : ℕ) → Step S plan workers order z st g w l (choose S (whole plan workers st) w l)
+  step w l = elim (below l (plan .lines)) [
+    | upper h t ↦ refuses 10 (omega arith) (far S (whole plan workers st) w l sound-here h)
+    | lower h t ↦ elim (below w workers) [
+      | upper d u ↦ refuses 26 (omega arith) (unknown S (whole plan workers st) w l sound-here h d)
+      | lower d u ↦ elim (see (ended (whole plan workers st))) [
+        | holds e ↦ refuses 11 (omega arith) (over S (whole plan workers st) w l sound-here h d e)
+        | fails e ↦ elim (see (g .busy l)) [ fails b ↦ waits-step l h e w d b | holds b ↦ busy-step l h e w d b ]
+      ]
     ]
   ]

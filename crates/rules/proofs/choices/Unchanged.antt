@@ -12,7 +12,7 @@ use Rattle.rules.specs.RunState.{Machine}
 use Rattle.rules.specs.Sources.{Source, Taken, Spoiled, Nothing, Took, Released, Broken, Passed}
 use Rattle.rules.specs.Choices.{Chosen, Refused}
 use Rattle.rules.specs.RunState.{slotOf, counterOf, isSerial}
-use Rattle.rules.specs.Choices.{next, fall, refuse, runningBelow, ended}
+use Rattle.rules.specs.Choices.{next, fall, refuse, atWork, ended}
 use Rattle.rules.specs.Ranges.{sound}
 use Rattle.rules.specs.Choices.{startFirst, startLater, start, settle, finishWith, finishFirst, finish, move, choose}
 
@@ -29,15 +29,15 @@ module _ {X : Type 0} (m : Machine X) where
   turned-down : (k : ℕ) → Unchanged (refuse m k)
   turned-down k n e = refl
 
-  module _ (S : Source X) (l : ℕ) where
-    first-unchanged : (o : Taken X) → Unchanged (startFirst S m l o)
+  module _ (S : Source X) (w l : ℕ) where
+    first-unchanged : (o : Taken X) → Unchanged (startFirst S m w l o)
     unfolding startFirst
     first-unchanged Spoiled = turned-down 14
     first-unchanged (Nothing x) = λ n e. let z : _≡_ {A = ℕ} 0 1 = cc in absurd (omega arith)
     first-unchanged (Took t x) =
         either (ltb (m .placed) (m .tokens)) _ _ (λ n e. let z : _≡_ {A = ℕ} 0 1 = cc in absurd (omega arith)) (turned-down 14)
 
-    start-unchanged : Unchanged (start S m l)
+    start-unchanged : Unchanged (start S m w l)
     unfolding start startLater
     start-unchanged =
         either (eqb (slotOf m l .pipe .0) 0) _ _ (first-unchanged (S .take (m .source)))
@@ -68,15 +68,19 @@ module _ {X : Type 0} (m : Machine X) where
         let s : Slot = slotOf m l in
         either (eqb (s .pipe .0) 0) _ _ (told-unchanged s (S .release (s .token .0) (m .source))) (with-unchanged s (m .source))
 
-    move-unchanged : Unchanged (move S m l)
+    move-unchanged : Unchanged (move S m w l)
     unfolding move
     move-unchanged =
-        either (slotOf m l .running) _ _ finish-unchanged
+        either (slotOf m l .running) _ _
+        (either (eqb (slotOf m l .worker .0) w) _ _ finish-unchanged (turned-down 26))
         (either (eqb (counterOf m l (slotOf m l .pipe .0)) 0) _ _
-        (either (ltb (runningBelow (m .slots) (m .lines)) (m .workers)) _ _ start-unchanged (turned-down 13)) (turned-down 12))
+        (either (atWork (m .slots) w (m .lines)) _ _ (turned-down 13) start-unchanged) (turned-down 12))
 
     -- the choice
-    pub refused-unchanged : Unchanged (choose S m l)
+    pub refused-unchanged : Unchanged (choose S m w l)
     unfolding choose
     refused-unchanged =
-        either (sound S m) _ _ (either (ltb l (m .lines)) _ _ (either (ended m) _ _ (turned-down 11) move-unchanged) (turned-down 10)) (turned-down 14)
+        either (sound S m) _ _
+        (either (ltb l (m .lines)) _ _
+        (either (ltb w (m .workers)) _ _
+        (either (ended m) _ _ (turned-down 11) move-unchanged) (turned-down 26)) (turned-down 10)) (turned-down 14)

@@ -9,7 +9,7 @@ use lib.ListN.{length, getD, drop}
 use Rattle.vocabulary.specs.declared.Slot.{Slot}
 use Rattle.vocabulary.specs.declared.Slots.{Slots}
 use Rattle.rules.specs.Lists.{if}
-use Rattle.rules.specs.RunState.{Pipeline, Machine, idle, runs, slotAt, full}
+use Rattle.rules.specs.RunState.{Pipeline, Machine, idle, runs, waits, slotAt, full}
 use Rattle.rules.specs.Sources.{Source, Writes, close, write, Passed}
 use Rattle.rules.specs.Ranges.{sound}
 use Rattle.rules.specs.Lists.{within}
@@ -48,17 +48,12 @@ whole plan workers st =
       source = st .source;
     }
 
--- the slot of a line by how the run stands; the line that stopped holds no token
-unfoldable pub shown : List ℕ → Bool → Standing → ℕ → Slot
-shown order stopped g l =
+-- the slot of a line by how the run stands, and by its worker if it runs; the line that stopped holds no token
+unfoldable pub shown : List ℕ → Bool → Standing → ℕ → ℕ → Slot
+shown order stopped g l w =
     if (eqb (g .pipe l) 0)
-    (if (g .busy l) (if stopped idle (runs 0 (getD order (g .place l) 0) (g .place l))) idle)
-    (record {
-      pipe = record { 0 = g .pipe l };
-      running = g .busy l;
-      token = record { 0 = getD order (g .place l) 0 };
-      place = record { 0 = g .place l };
-    })
+    (if (g .busy l) (if stopped idle (runs 0 (getD order (g .place l) 0) (g .place l) w)) idle)
+    (if (g .busy l) (runs (g .pipe l) (getD order (g .place l) 0) (g .place l) w) (waits (g .pipe l) (getD order (g .place l) 0) (g .place l)))
 
 -- a line runs pipe 0, or has stopped there
 pub record First (plan : Pipeline) (g : Standing) (l : ℕ) : Type 0 where
@@ -73,10 +68,16 @@ pub record Tallied (plan : Pipeline) (counters : List ℕ) (g : Standing) : Type
       getD counters (16 * l + p) 0 + waiting g l p + turn plan g l p ≡ full (serialAt plan p)
   pub unused : (l p : ℕ) → p < 16 → (l < plan .lines → p < plan .pipes → ⊥) → getD counters (16 * l + p) 0 ≡ 0
 
+-- a slot says how its line stands, by one of the workers
+pub record Shown (workers : ℕ) (order : List ℕ) (slot : Slot) (stopped : Bool) (g : Standing) (l : ℕ) : Type 0 where
+  pub worker : ℕ
+  pub manned : worker < workers
+  pub is : slot ≡ shown order stopped g l worker
+
 -- the slots say how the run stands
-pub record Slotted (plan : Pipeline) (order : List ℕ) (slots : Slots) (stopped : Bool) (g : Standing) : Type 0 where
+pub record Slotted (plan : Pipeline) (workers : ℕ) (order : List ℕ) (slots : Slots) (stopped : Bool) (g : Standing) : Type 0 where
   pub size : Sized slots
-  pub used : (l : ℕ) → l < plan .lines → slotAt slots l ≡ shown order stopped g l
+  pub used : (l : ℕ) → l < plan .lines → Shown workers order (slotAt slots l) stopped g l
   pub spare : (l : ℕ) → plan .lines ≤ l → slotAt slots l ≡ idle
 
 module _ {X : Type 0} (S : Source X) (plan : Pipeline) (order : List ℕ) (z : X) where
@@ -90,20 +91,20 @@ module _ {X : Type 0} (S : Source X) (plan : Pipeline) (order : List ℕ) (z : X
     closed : (l : ℕ) → First plan g l → st .stopped ≡ true → st .placed ≡ g .passed 0 → g .passed 0 ≡ length order →
         S .sound (st .source) ≡ true → st .source ≡ z → Feed st g
 
-  -- the invariant of a run
-  pub record Inv (st : State X) (g : Standing) : Type 0 where
-    pub good : Good plan g
-    pub tally : Tallied plan (st .counters) g
-    pub slotted : Slotted plan order (st .slots) (st .stopped) g
-    pub feed : Feed st g
+-- the invariant of a run
+pub record Inv {X : Type 0} (S : Source X) (plan : Pipeline) (workers : ℕ) (order : List ℕ) (z : X) (st : State X) (g : Standing) : Type 0 where
+  pub good : Good plan g
+  pub tally : Tallied plan (st .counters) g
+  pub slotted : Slotted plan workers order (st .slots) (st .stopped) g
+  pub feed : Feed S plan order z st g
 
 -- a source that writes is sound
 pub writes-sound : {X : Type 0} {S : Source X} {x z : X} {ts : List ℕ} → Writes S x ts z → S .sound x ≡ true
 writes-sound (close a b c) = a
 writes-sound (write a b c d e) = a
 
-module _ {X : Type 0} {S : Source X} {plan : Pipeline} {order : List ℕ} {z : X} (ranged : PipelineInRange plan) {st : State X} {g : Standing}
-    (inv : Inv S plan order z st g) where
+module _ {X : Type 0} {S : Source X} {plan : Pipeline} {workers : ℕ} {order : List ℕ} {z : X} (ranged : PipelineInRange plan) {st : State X} {g : Standing}
+    (inv : Inv S plan workers order z st g) where
   -- no more has finished pipe 0 than the order has
   passed-most : g .passed 0 ≤ length order
   passed-most = elim (inv .feed) [

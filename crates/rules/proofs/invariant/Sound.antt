@@ -11,7 +11,7 @@ use Rattle.rules.specs.Lists.{if, every}
 use Rattle.vocabulary.specs.declared.Slot.{Slot}
 use Rattle.rules.specs.RunState.{Pipeline, idle, slotAt}
 use Rattle.rules.specs.Sources.{Source}
-use Rattle.rules.specs.Ranges.{sound, numbersSound, isIdle, isLoaded, slotSound, mostAt, counterSound, serialSound}
+use Rattle.rules.specs.Ranges.{sound, numbersSound, isIdle, isLoaded, workerSound, slotSound, mostAt, counterSound, serialSound}
 use Rattle.rules.specs.Lists.{within}
 use Rattle.rules.proofs.lists.Tests.{same, other, sameAs, lower, upper, below, holds, fails, see, never}
 use Rattle.rules.proofs.standing.Standing.{Standing, serialAt}
@@ -33,7 +33,7 @@ unfolding within
 within-range low high n h k = rw (le-leb low n h, le-leb n high k)
 
 module _ {X : Type 0} {S : Source X} {plan : Pipeline} {workers : ℕ} {order : List ℕ} {z : X} (ok : Allowed plan workers order)
-    {st : State X} {g : Standing} (inv : Inv S plan order z st g) where
+    {st : State X} {g : Standing} (inv : Inv S plan workers order z st g) where
   -- a line that runs pipe 0, in a run that has not stopped, holds the token placed last
   pub first-place : (l : ℕ) → First plan g l → st .stopped ≡ false → g .place l < length order
   first-place l f s = elim (inv .feed) [
@@ -43,20 +43,26 @@ module _ {X : Type 0} {S : Source X} {plan : Pipeline} {workers : ℕ} {order : 
     | closed i o a b c d e ↦ absurd (never (sym a ∙ s))
   ]
 
-  idle-sound : (l : ℕ) → slotAt (st .slots) l ≡ idle → slotSound (plan .pipes) (plan .lines) (plan .tokens) (st .slots) l ≡ true
-  unfolding slotSound isIdle
+  idle-sound : (l : ℕ) → slotAt (st .slots) l ≡ idle → slotSound (plan .pipes) (plan .lines) (plan .tokens) workers (st .slots) l ≡ true
+  unfolding slotSound isIdle workerSound
   idle-sound l e = rw e
 
   -- a line that holds a token of the order
-  abbrev held : ℕ → Bool → Slot
-  held l r = record { pipe = record { 0 = g .pipe l }; running = r; token = record { 0 = tokenOf order (st .stopped) g l }; place = record { 0 = g .place l } }
+  abbrev held : ℕ → Bool → ℕ → Slot
+  held l r w = record {
+    pipe = record { 0 = g .pipe l };
+    running = r;
+    token = record { 0 = tokenOf order (st .stopped) g l };
+    place = record { 0 = g .place l };
+    worker = record { 0 = w };
+  }
 
-  loaded-sound : (l : ℕ) (r : Bool) → l < plan .lines → if r true (ltb 0 (g .pipe l)) ≡ true → g .place l < length order →
-      slotAt (st .slots) l ≡ held l r → slotSound (plan .pipes) (plan .lines) (plan .tokens) (st .slots) l ≡ true
+  loaded-sound : (l : ℕ) (r : Bool) (w : ℕ) → l < plan .lines → if r true (ltb 0 (g .pipe l)) ≡ true → workerSound workers (held l r w) ≡ true →
+      g .place l < length order → slotAt (st .slots) l ≡ held l r w → slotSound (plan .pipes) (plan .lines) (plan .tokens) workers (st .slots) l ≡ true
   unfolding slotSound isLoaded
-  loaded-sound l r h busy k e =
+  loaded-sound l r w h busy manned k e =
       let f : length order ≤ plan .tokens = ok .fits in
-      rw e (elim (see (isIdle (held l r))) [
+      rw (e, manned) (elim (see (isIdle (held l r w))) [
         | holds i ↦ rw i
         | fails i ↦ rw (
           i,
@@ -68,22 +74,31 @@ module _ {X : Type 0} {S : Source X} {plan : Pipeline} {workers : ℕ} {order : 
         )
       ])
 
-  slot-sound : (l : ℕ) → slotSound (plan .pipes) (plan .lines) (plan .tokens) (st .slots) l ≡ true
+  worker-runs : (l w : ℕ) → w < workers → workerSound workers (held l true w) ≡ true
+  unfolding workerSound
+  worker-runs l w d = lt-ltb w workers d
+
+  worker-waits : (l : ℕ) → workerSound workers (held l false 0) ≡ true
+  unfolding workerSound
+  worker-waits l = refl
+
+  slot-sound : (l : ℕ) → slotSound (plan .pipes) (plan .lines) (plan .tokens) workers (st .slots) l ≡ true
   slot-sound l = elim (below l (plan .lines)) [
     | upper h t ↦ idle-sound l (inv .slotted .spare l h)
-    | lower h t ↦ elim (sameAs (g .pipe l) 0) [
+    | lower h t ↦ let u = inv .slotted .used l h in elim (sameAs (g .pipe l) 0) [
       | other n t ↦ elim (see (g .busy l)) [
-        | fails b ↦ loaded-sound l false h (lt-ltb 0 (g .pipe l) (omega arith)) (carried (ok .ranged) inv l h n)
-            (inv .slotted .used l h ∙ shown-waits order (st .stopped) g l n b)
-        | holds b ↦ loaded-sound l true h refl (carried (ok .ranged) inv l h n)
-            (inv .slotted .used l h ∙ shown-runs order (st .stopped) g l (λ s e. n e) b)
+        | fails b ↦ loaded-sound l false 0 h (lt-ltb 0 (g .pipe l) (omega arith)) (worker-waits l) (carried (ok .ranged) inv l h n)
+            (u .is ∙ shown-waits order (st .stopped) g l (u .worker) n b)
+        | holds b ↦ loaded-sound l true (u .worker) h refl (worker-runs l (u .worker) (u .manned)) (carried (ok .ranged) inv l h n)
+            (u .is ∙ shown-runs order (st .stopped) g l (u .worker) (λ s e. n e) b)
       ]
       | same e t ↦ elim (see (g .busy l)) [
-        | fails b ↦ idle-sound l (inv .slotted .used l h ∙ shown-idle order (st .stopped) g l e b)
+        | fails b ↦ idle-sound l (u .is ∙ shown-idle order (st .stopped) g l (u .worker) e b)
         | holds b ↦ elim (see (st .stopped)) [
-          | holds s ↦ idle-sound l (inv .slotted .used l h ∙ shown-stopped order (st .stopped) g l e b s)
-          | fails s ↦ loaded-sound l true h refl (first-place l (record { within = h; first = e; runs = b }) s)
-              (inv .slotted .used l h ∙ shown-runs order (st .stopped) g l (λ a f. never (sym a ∙ s)) b)
+          | holds s ↦ idle-sound l (u .is ∙ shown-stopped order (st .stopped) g l (u .worker) e b s)
+          | fails s ↦ loaded-sound l true (u .worker) h refl (worker-runs l (u .worker) (u .manned))
+              (first-place l (record { within = h; first = e; runs = b }) s)
+              (u .is ∙ shown-runs order (st .stopped) g l (u .worker) (λ a f. never (sym a ∙ s)) b)
         ]
       ]
     ]
@@ -126,7 +141,7 @@ module _ {X : Type 0} {S : Source X} {plan : Pipeline} {workers : ℕ} {order : 
         le-leb (st .placed) (plan .tokens) (omega (arith, placed-most (ok .ranged) inv)),
         ok .ranged .first-serial,
         every-holds 16 (serialSound (plan .pipes) (plan .serial)) (λ p h. serial-sound p),
-        every-holds 32 (slotSound (plan .pipes) (plan .lines) (plan .tokens) (st .slots)) (λ l h. slot-sound l),
+        every-holds 32 (slotSound (plan .pipes) (plan .lines) (plan .tokens) workers (st .slots)) (λ l h. slot-sound l),
         every-holds 512 (counterSound (plan .pipes) (plan .lines) (plan .serial) (st .counters)) (λ i h. counter-sound i),
         source-sound (ok .ranged) inv,
       )

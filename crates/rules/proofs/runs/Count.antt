@@ -122,8 +122,8 @@ abbrev Balance : {X : Type 0} → Pipeline → State X → Standing → State X 
 Balance plan end last st g n =
     n + 2 * (plan .pipes * takes st) + total (left plan last) (plan .lines) ≡ 2 * (plan .pipes * takes end) + total (left plan g) (plan .lines)
 
-module _ {X : Type 0} {S : Source X} {plan : Pipeline} {order : List ℕ} {z : X} (ranged : PipelineInRange plan) (end : State X) (last : Standing)
-    (st st′ : State X) (g : Standing) (l n : ℕ) (inv : Inv S plan order z st g) where
+module _ {X : Type 0} {S : Source X} {plan : Pipeline} {workers : ℕ} {order : List ℕ} {z : X} (ranged : PipelineInRange plan) (end : State X) (last : Standing)
+    (st st′ : State X) (g : Standing) (l n : ℕ) (inv : Inv S plan workers order z st g) where
   enter-balance : Ready plan g l → g .pipe l ≡ 0 → takes st′ ≡ suc (takes st) → Balance plan end last st′ (begin g l) n → Balance plan end last st g (suc n)
   enter-balance r e t b =
       omega (arith, enter-left ranged (inv .good) l (r .within) (r .waits) e, ap (λ k. plan .pipes * k) t, mul-suc (plan .pipes) (takes st), b)
@@ -142,8 +142,8 @@ stop-takes : {X : Type 0} (st st′ : State X) → st .stopped ≡ false → st�
 stop-takes st st′ a b c = rw (a, b, c) (omega arith)
 
 -- the accepted choices of a run, or of a part of one
-pub balance : {X : Type 0} {S : Source X} {plan : Pipeline} {order : List ℕ} {z : X} → PipelineInRange plan → {end : State X} {last : Standing}
-    {st : State X} {g : Standing} {events : List Answer} → Trace S plan order z end last st g events → Balance plan end last st g (accepted events)
+pub balance : {X : Type 0} {S : Source X} {plan : Pipeline} {workers : ℕ} {order : List ℕ} {z : X} → PipelineInRange plan → {end : State X} {last : Standing}
+    {st : State X} {g : Standing} {events : List Answer} → Trace S plan workers order z end last st g events → Balance plan end last st g (accepted events)
 unfolding accepted
 balance r (rests inv) = omega arith
 balance r (refused n h t) = balance r t
@@ -157,7 +157,7 @@ balance r {end} {last} (finished {st = st} {st′ = st′} {g = g} {rest = rest}
     finish-balance r end last st st′ g l (accepted rest) inv f (balance r t)
 
 module _ {X : Type 0} {S : Source X} {plan : Pipeline} {workers : ℕ} {order : List ℕ} {z : X} (ok : Allowed plan workers order)
-    {st : State X} {g : Standing} (inv : Inv S plan order z st g) where
+    {st : State X} {g : Standing} (inv : Inv S plan workers order z st g) where
   -- a line for which nothing is left waits at pipe 0
   pub none-left : (l : ℕ) → l < plan .lines → left plan g l ≡ 0 → g .pipe l ≡ 0
   none-left l h e =

@@ -102,7 +102,7 @@ pub record Over {X : Type 0} (plan : Pipeline) (order : List ℕ) (z : X) (st : 
   pub first : (l : ℕ) → l < plan .lines → g .pipe l ≡ 0
 
 module _ {X : Type 0} {S : Source X} {plan : Pipeline} {workers : ℕ} {order : List ℕ} {z : X} (ok : Allowed plan workers order)
-    {st : State X} {g : Standing} (inv : Inv S plan order z st g) where
+    {st : State X} {g : Standing} (inv : Inv S plan workers order z st g) where
   -- the line with the least place can move, unless it has stopped
   stuck-least : (l : ℕ) → l < plan .lines → ((i : ℕ) → i < plan .lines → g .place l ≤ g .place i) → Still (whole plan workers st) l →
       (st .stopped ≡ true) × First plan g l

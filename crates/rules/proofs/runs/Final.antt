@@ -25,7 +25,7 @@ use Rattle.rules.proofs.choices.Steps.{busy-full}
 use Rattle.rules.proofs.runs.Ending.{Over, over-busy}
 
 module _ {X : Type 0} {S : Source X} {plan : Pipeline} {workers : ℕ} {order : List ℕ} {z : X} (ok : Allowed plan workers order)
-    {st : State X} {g : Standing} (inv : Inv S plan order z st g) (over : Over plan order z st g) where
+    {st : State X} {g : Standing} (inv : Inv S plan workers order z st g) (over : Over plan order z st g) where
   -- every line's next place to finish is its own
   waits-first : (l p : ℕ) → l < plan .lines → toFinish plan g l p ≡ g .place l
   unfolding toFinish
@@ -152,9 +152,9 @@ module _ {X : Type 0} {S : Source X} {plan : Pipeline} {workers : ℕ} {order : 
       final-slot : (k : ℕ) → slotAt (st .slots) k ≡ idle
       final-slot k = elim (below k (plan .lines)) [
         | upper h t ↦ inv .slotted .spare k h
-        | lower h t ↦ inv .slotted .used k h ∙ elim (see (g .busy k)) [
-          | fails b ↦ shown-idle order (st .stopped) g k (over .first k h) b
-          | holds b ↦ shown-stopped order (st .stopped) g k (over .first k h) b (over .stopped)
+        | lower h t ↦ inv .slotted .used k h .is ∙ elim (see (g .busy k)) [
+          | fails b ↦ shown-idle order (st .stopped) g k _ (over .first k h) b
+          | holds b ↦ shown-stopped order (st .stopped) g k _ (over .first k h) b (over .stopped)
         ]
       ]
 

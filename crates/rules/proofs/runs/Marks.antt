@@ -79,10 +79,10 @@ module _ {plan : Pipeline} (ranged : PipelineInRange plan) {g : Standing} (ok : 
     ]
   ]
 
-module _ {X : Type 0} {S : Source X} {plan : Pipeline} {order : List ℕ} {z : X} (ranged : PipelineInRange plan) {end : State X} {last : Standing}
+module _ {X : Type 0} {S : Source X} {plan : Pipeline} {workers : ℕ} {order : List ℕ} {z : X} (ranged : PipelineInRange plan) {end : State X} {last : Standing}
     (p k : ℕ) (h : p < plan .pipes) (ordered : k < length order) where
   -- the Started events of place k at pipe p are those that its mark lacked
-  pub starts-marked : {st : State X} {g : Standing} {events : List Answer} → Trace S plan order z end last st g events →
+  pub starts-marked : {st : State X} {g : Standing} {events : List Answer} → Trace S plan workers order z end last st g events →
       startsOf p k events + mark k (toStart plan g (k % plan .lines) p) ≡ mark k (toStart plan last (k % plan .lines) p)
   unfolding startsOf
   starts-marked (rests inv) = omega arith
@@ -101,7 +101,7 @@ module _ {X : Type 0} {S : Source X} {plan : Pipeline} {order : List ℕ} {z : X
   starts-marked (finished {g = g} l inv f t) = rw (finish-start ranged g l (f .runs) (k % plan .lines) p h) at (starts-marked t)
 
   -- and the Finished events
-  pub finishes-marked : {st : State X} {g : Standing} {events : List Answer} → Trace S plan order z end last st g events →
+  pub finishes-marked : {st : State X} {g : Standing} {events : List Answer} → Trace S plan workers order z end last st g events →
       finishesOf p k events + mark k (toFinish plan g (k % plan .lines) p) ≡ mark k (toFinish plan last (k % plan .lines) p)
   unfolding finishesOf
   finishes-marked (rests inv) = omega arith

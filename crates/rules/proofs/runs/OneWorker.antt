@@ -1,6 +1,6 @@
 -- The one-worker run: its choices are all accepted.
 use mathlib.Core.Path.{_≡_, sym, ap, _∙_}
-use mathlib.Core.Bool.{Bool, false}
+use mathlib.Core.Bool.{Bool, true, false}
 use mathlib.Core.List.{List, [], _∷_, _++_}
 use Prim.Native.Nat.{ℕ, zero, suc, _+_, _-_, _*_, _%_, _≤_, _<_}
 use native.Mathlib.Nat.{mod-lt}
@@ -9,8 +9,8 @@ use lib.ListN.{length, replicate, length-replicate, length-append}
 use Rattle.rules.specs.Lists.{if, Every}
 use Rattle.rules.specs.RunState.{Pipeline, Machine}
 use Rattle.rules.specs.Sources.{Source}
-use Rattle.rules.specs.Choices.{Answer, Stopped, ended, choose, answers, runningBelow}
-use Rattle.rules.specs.WholeRuns.{Accepted, lastOf, oneWorker}
+use Rattle.rules.specs.Choices.{Choice, Answer, Stopped, ended, choose, chooseBy, atWork, answers}
+use Rattle.rules.specs.WholeRuns.{Accepted, lastOf, byOne, oneWorker}
 use Rattle.rules.proofs.lists.Tests.{same, other, sameAs, holds, fails, see, never}
 use Rattle.rules.proofs.lists.Rotation.{only}
 use Rattle.rules.proofs.standing.Standing.{Standing, begin, finish, toFinish, finish-here, finish-past, least-turn}
@@ -19,8 +19,8 @@ use Rattle.rules.proofs.standing.Finish.{finish-pipe-else, finish-busy-
 use Rattle.rules.proofs.invariant.Tally.{turn-zero}
 use Rattle.rules.proofs.invariant.Invariant.{Allowed, State, whole, free, taken, closed, Inv}
 use Rattle.rules.proofs.choices.Moves.{Enters, Starts, Finishes, Next, Move, stops, enters, starts, finishes}
-use Rattle.rules.proofs.choices.Steps.{slot-rests, runs-move, waits-move}
-use Rattle.rules.proofs.runs.Progress.{none-runs}
+use Rattle.rules.proofs.choices.Steps.{slot-rests, slot-manned, runs-move, waits-move}
+use Rattle.rules.proofs.runs.Progress.{none-works}
 use Rattle.rules.proofs.runs.Count.{left, left-busy, left-first, left-later, left-begin, left-finish, none-left}
 use Rattle.rules.proofs.choices.Answers.{started-accepted, finished-accepted, stopped-accepted}
 
@@ -34,13 +34,13 @@ not-ended m e = first-false (m .stopped) _ e
 
 module _ {X : Type 0} (S : Source X) (plan : Pipeline) (order : List ℕ) (z : X) (ok : Allowed plan 1 order) where
   -- from a state these choices are all accepted, and the last stops
-  abbrev AllAccepted : List ℕ → State X → Type 0
-  AllAccepted ls st = Every Accepted (answers S (whole plan 1 st) ls) ×
-      ((a : Answer) → lastOf a (answers S (whole plan 1 st) ls) ≡ Stopped (length order % plan .lines))
+  abbrev AllAccepted : List Choice → State X → Type 0
+  AllAccepted cs st = Every Accepted (answers S (whole plan 1 st) cs) ×
+      ((a : Answer) → lastOf a (answers S (whole plan 1 st) cs) ≡ Stopped (length order % plan .lines) 0)
 
   -- every line waits at pipe 0, and so many tokens are placed
   pub record Quiet (k : ℕ) (st : State X) (g : Standing) : Type 0 where
-    pub kept : Inv S plan order z st g
+    pub kept : Inv S plan 1 order z st g
     pub live : st .stopped ≡ false
     pub placed : st .placed ≡ k
     pub first : (j : ℕ) → j < plan .lines → g .pipe j ≡ 0
@@ -48,7 +48,7 @@ module _ {X : Type 0} (S : Source X) (plan : Pipeline) (order : List ℕ) (z : X
 
   -- line l works on its token, and every other line waits at pipe 0
   record Solo (k l : ℕ) (st : State X) (g : Standing) : Type 0 where
-    kept : Inv S plan order z st g
+    kept : Inv S plan 1 order z st g
     live : st .stopped ≡ false
     placed : st .placed ≡ suc k
     within : l < plan .lines
@@ -56,10 +56,10 @@ module _ {X : Type 0} (S : Source X) (plan : Pipeline) (order : List ℕ) (z : X
     rests : (j : ℕ) → j < plan .lines → (j ≡ l → ⊥) → g .busy j ≡ false
 
   -- a choice with a known answer before a list of choices
-  accept : (l : ℕ) (ls : List ℕ) (st : State X) (a : Answer) (st′ : State X) (g′ : Standing) → Next S plan 1 order z (choose S (whole plan 1 st) l) a st′ g′ →
-      Accepted a → AllAccepted ls st′ → AllAccepted (l ∷ ls) st
+  accept : (l : ℕ) (cs : List Choice) (st : State X) (a : Answer) (st′ : State X) (g′ : Standing) →
+      Next S plan 1 order z (chooseBy S (whole plan 1 st) (byOne l)) a st′ g′ → Accepted a → AllAccepted cs st′ → AllAccepted (byOne l ∷ cs) st
   unfolding answers lastOf
-  accept l ls st a st′ g′ n c rest = rw (n .is) ((c, rest .0), λ b. rest .1 a)
+  accept l cs st a st′ g′ n c rest = rw (n .is) ((c, rest .0), λ b. rest .1 a)
 
   module _ (k l : ℕ) (st : State X) (g : Standing) (solo : Solo k l st g) where
     -- past pipe 0 the working line has the least place
@@ -78,21 +78,24 @@ module _ {X : Type 0} (S : Source X) (plan : Pipeline) (order : List ℕ) (z : X
     ]
 
     -- so its next choice is accepted
-    working-move : (left plan g l ≡ 0 → ⊥) → Move S plan 1 order z st g l (choose S (whole plan 1 st) l)
+    working-move : (left plan g l ≡ 0 → ⊥) → Move S plan 1 order z st g 0 l (choose S (whole plan 1 st) 0 l)
     working-move m = elim (see (g .busy l)) [
-      | holds b ↦ runs-move ok (solo .kept) l (solo .within) (not-ended (whole plan 1 st) (solo .live)) b (λ s e. never (sym s ∙ solo .live))
+      | holds b ↦
+          let n : st .stopped ≡ true → g .pipe l ≡ 0 → ⊥ = λ s e. never (sym s ∙ solo .live) in
+          runs-move ok (solo .kept) l (solo .within) (not-ended (whole plan 1 st) (solo .live)) 0 (omega arith) b n
+          (omega (arith, slot-manned ok (solo .kept) l (solo .within) b n))
       | fails b ↦
           let n : g .pipe l ≡ 0 → ⊥ = λ e. m (left-first plan g l b e) in
-          let none : runningBelow (st .slots) (plan .lines) ≡ 0 = none-runs (st .slots) (plan .lines) (λ j h. elim (sameAs j l) [
+          let none : atWork (st .slots) 0 (plan .lines) ≡ false = none-works (st .slots) 0 (plan .lines) (λ j h. elim (sameAs j l) [
             | same e t ↦ rw e (slot-rests ok (solo .kept) l (solo .within) b)
             | other d t ↦ slot-rests ok (solo .kept) j h (solo .rests j h d)
           ]) in
-          waits-move ok (solo .kept) l (solo .within) (not-ended (whole plan 1 st) (solo .live)) b
+          waits-move ok (solo .kept) l (solo .within) (not-ended (whole plan 1 st) (solo .live)) 0 (omega arith) b
           (turn-zero (ok .ranged) (solo .kept .tally) (solo .kept .good) l (solo .within) b
-          (least-turn (ok .ranged) g (solo .kept .good) l (solo .within) (working-least n))) (omega arith)
+          (least-turn (ok .ranged) g (solo .kept .good) l (solo .within) (working-least n))) none
     ]
 
-    begin-solo : (st′ : State X) → Starts plan order st g l st′ → Inv S plan order z st′ (begin g l) → Solo k l st′ (begin g l)
+    begin-solo : (st′ : State X) → Starts plan order st g l st′ → Inv S plan 1 order z st′ (begin g l) → Solo k l st′ (begin g l)
     unfolding begin
     begin-solo st′ f v = record {
       kept = v;
@@ -103,7 +106,7 @@ module _ {X : Type 0} (S : Source X) (plan : Pipeline) (order : List ℕ) (z : X
       rests = λ j h d. begin-busy-else (ok .ranged) g l (f .ready .waits) j d ∙ solo .rests j h d;
     }
 
-    finish-solo : (st′ : State X) → Finishes plan order st g l st′ → Inv S plan order z st′ (finish plan g l) → Solo k l st′ (finish plan g l)
+    finish-solo : (st′ : State X) → Finishes plan order st g l st′ → Inv S plan 1 order z st′ (finish plan g l) → Solo k l st′ (finish plan g l)
     finish-solo st′ f v = record {
       kept = v;
       live = f .stopped ∙ solo .live;
@@ -132,21 +135,21 @@ module _ {X : Type 0} (S : Source X) (plan : Pipeline) (order : List ℕ) (z : X
         }
 
   -- the working line finishes its token with as many choices as it has left
-  module _ (k l n : ℕ) (rest : List ℕ) (then : (st : State X) (g : Standing) → Quiet (suc k) st g → AllAccepted rest st)
-      (go : (st : State X) (g : Standing) → Solo k l st g → left plan g l ≡ n → AllAccepted (replicate n l ++ rest) st)
+  module _ (k l n : ℕ) (rest : List Choice) (then : (st : State X) (g : Standing) → Quiet (suc k) st g → AllAccepted rest st)
+      (go : (st : State X) (g : Standing) → Solo k l st g → left plan g l ≡ n → AllAccepted (replicate n (byOne l) ++ rest) st)
       (st : State X) (g : Standing) (solo : Solo k l st g) (e : left plan g l ≡ suc n) where
-    work-on : Move S plan 1 order z st g l (choose S (whole plan 1 st) l) → AllAccepted (l ∷ (replicate n l ++ rest)) st
+    work-on : Move S plan 1 order z st g 0 l (choose S (whole plan 1 st) 0 l) → AllAccepted (byOne l ∷ (replicate n (byOne l) ++ rest)) st
     work-on (stops st′ f m) = absurd (omega (arith, e, left-first plan g l (f .ready .waits) (f .first)))
     work-on (enters st′ f m) = absurd (omega (arith, e, left-first plan g l (f .ready .waits) (f .first)))
-    work-on (starts st′ f m) = accept l (replicate n l ++ rest) st _ st′ (begin g l) m started-accepted
+    work-on (starts st′ f m) = accept l (replicate n (byOne l) ++ rest) st _ st′ (begin g l) m started-accepted
         (go st′ (begin g l) (begin-solo k l st g solo st′ f (m .kept))
         (omega (arith, e, left-begin (ok .ranged) (solo .kept .good) l (solo .within) (f .ready .waits), left-later plan g l (f .ready .waits) (f .later))))
-    work-on (finishes st′ f m) = accept l (replicate n l ++ rest) st _ st′ (finish plan g l) m finished-accepted
+    work-on (finishes st′ f m) = accept l (replicate n (byOne l) ++ rest) st _ st′ (finish plan g l) m finished-accepted
         (go st′ (finish plan g l) (finish-solo k l st g solo st′ f (m .kept))
         (omega (arith, e, left-finish (ok .ranged) (solo .kept .good) l (solo .within) (f .runs))))
 
-  work : (k l n : ℕ) (rest : List ℕ) → ((st : State X) (g : Standing) → Quiet (suc k) st g → AllAccepted rest st) →
-      (st : State X) (g : Standing) → Solo k l st g → left plan g l ≡ n → AllAccepted (replicate n l ++ rest) st
+  work : (k l n : ℕ) (rest : List Choice) → ((st : State X) (g : Standing) → Quiet (suc k) st g → AllAccepted rest st) →
+      (st : State X) (g : Standing) → Solo k l st g → left plan g l ≡ n → AllAccepted (replicate n (byOne l) ++ rest) st
   work k l zero rest then st g solo e = then st g (solo-done k l st g solo e)
   work k l (suc n) rest then st g solo e =
       work-on k l n rest then (work k l n rest then) st g solo e (working-move k l st g solo (omega arith))
@@ -173,16 +176,16 @@ module _ {X : Type 0} (S : Source X) (plan : Pipeline) (order : List ℕ) (z : X
         (omega (arith, e, quiet-passed, quiet .kept .good .high l 0 quiet-in (ok .ranged .pipes-some) (ok .ranged .first-serial)))
         (quiet .kept .good .line l quiet-in)
 
-    quiet-move : Move S plan 1 order z st g (k % plan .lines) (choose S (whole plan 1 st) (k % plan .lines))
+    quiet-move : Move S plan 1 order z st g 0 (k % plan .lines) (choose S (whole plan 1 st) 0 (k % plan .lines))
     quiet-move =
         let l : ℕ = k % plan .lines in
-        let none : runningBelow (st .slots) (plan .lines) ≡ 0 =
-        none-runs (st .slots) (plan .lines) (λ j h. slot-rests ok (quiet .kept) j h (quiet .rests j h)) in
-        waits-move ok (quiet .kept) l quiet-in (not-ended (whole plan 1 st) (quiet .live)) (quiet .rests l quiet-in)
+        let none : atWork (st .slots) 0 (plan .lines) ≡ false =
+        none-works (st .slots) 0 (plan .lines) (λ j h. slot-rests ok (quiet .kept) j h (quiet .rests j h)) in
+        waits-move ok (quiet .kept) l quiet-in (not-ended (whole plan 1 st) (quiet .live)) 0 (omega arith) (quiet .rests l quiet-in)
         (turn-zero (ok .ranged) (quiet .kept .tally) (quiet .kept .good) l quiet-in (quiet .rests l quiet-in)
-        (λ s. quiet-place ∙ sym quiet-passed ∙ ap (g .passed) (sym (quiet .first l quiet-in)))) (omega arith)
+        (λ s. quiet-place ∙ sym quiet-passed ∙ ap (g .passed) (sym (quiet .first l quiet-in)))) none
 
-    enter-solo : (st′ : State X) → Enters plan order st g (k % plan .lines) st′ → Inv S plan order z st′ (begin g (k % plan .lines)) →
+    enter-solo : (st′ : State X) → Enters plan order st g (k % plan .lines) st′ → Inv S plan 1 order z st′ (begin g (k % plan .lines)) →
         Solo k (k % plan .lines) st′ (begin g (k % plan .lines))
     unfolding begin
     enter-solo st′ f v = record {
@@ -194,22 +197,22 @@ module _ {X : Type 0} (S : Source X) (plan : Pipeline) (order : List ℕ) (z : X
       rests = λ j h d. begin-busy-else (ok .ranged) g (k % plan .lines) (f .ready .waits) j d ∙ quiet .rests j h;
     }
 
-    module _ (rest : List ℕ) (then : (st : State X) (g : Standing) → Quiet (suc k) st g → AllAccepted rest st) (n : ℕ) (e : 2 * plan .pipes ≡ suc n) where
+    module _ (rest : List Choice) (then : (st : State X) (g : Standing) → Quiet (suc k) st g → AllAccepted rest st) (n : ℕ) (e : 2 * plan .pipes ≡ suc n) where
       -- 2 · P choices of line k mod L take token k through all pipes
-      round : k < length order → Move S plan 1 order z st g (k % plan .lines) (choose S (whole plan 1 st) (k % plan .lines)) →
-          AllAccepted ((k % plan .lines) ∷ (replicate n (k % plan .lines) ++ rest)) st
+      round : k < length order → Move S plan 1 order z st g 0 (k % plan .lines) (choose S (whole plan 1 st) 0 (k % plan .lines)) →
+          AllAccepted (byOne (k % plan .lines) ∷ (replicate n (byOne (k % plan .lines)) ++ rest)) st
       round h (stops st′ f m) = absurd (omega (arith, f .last, quiet-place))
       round h (starts st′ f m) = absurd (f .later (quiet .first (k % plan .lines) quiet-in))
       round h (finishes st′ f m) = absurd (never (sym (f .runs) ∙ quiet .rests (k % plan .lines) quiet-in))
-      round h (enters st′ f m) = accept (k % plan .lines) (replicate n (k % plan .lines) ++ rest) st _ st′ (begin g (k % plan .lines)) m started-accepted
+      round h (enters st′ f m) = accept (k % plan .lines) (replicate n (byOne (k % plan .lines)) ++ rest) st _ st′ (begin g (k % plan .lines)) m started-accepted
           (work k (k % plan .lines) n rest then st′ (begin g (k % plan .lines)) (enter-solo st′ f (m .kept))
           (omega (arith, e, f .first, left-begin (ok .ranged) (quiet .kept .good) (k % plan .lines) quiet-in (f .ready .waits))))
 
     -- the last choice stops
-    close-run : k ≡ length order → Move S plan 1 order z st g (k % plan .lines) (choose S (whole plan 1 st) (k % plan .lines)) →
-        AllAccepted ((k % plan .lines) ∷ []) st
+    close-run : k ≡ length order → Move S plan 1 order z st g 0 (k % plan .lines) (choose S (whole plan 1 st) 0 (k % plan .lines)) →
+        AllAccepted (byOne (k % plan .lines) ∷ []) st
     unfolding answers lastOf
-    close-run e (stops st′ f m) = rw (m .is) ((stopped-accepted, tt), λ a. ap (λ n. Stopped (n % plan .lines)) e)
+    close-run e (stops st′ f m) = rw (m .is) ((stopped-accepted, tt), λ a. ap (λ n. Stopped (n % plan .lines) 0) e)
     close-run e (enters st′ f m) = absurd (omega (arith, f .ordered, quiet-place))
     close-run e (starts st′ f m) = absurd (f .later (quiet .first (k % plan .lines) quiet-in))
     close-run e (finishes st′ f m) = absurd (never (sym (f .runs) ∙ quiet .rests (k % plan .lines) quiet-in))
@@ -228,5 +231,5 @@ pub length-one-worker : (plan : Pipeline) (k places : ℕ) → length (oneWorker
 unfolding oneWorker
 length-one-worker plan k zero = omega arith
 length-one-worker plan k (suc places) =
-    length-append (replicate (2 * plan .pipes) (k % plan .lines)) (oneWorker plan (suc k) places) ∙
-    omega (arith, length-replicate (2 * plan .pipes) (k % plan .lines), length-one-worker plan (suc k) places)
+    length-append (replicate (2 * plan .pipes) (byOne (k % plan .lines))) (oneWorker plan (suc k) places) ∙
+    omega (arith, length-replicate (2 * plan .pipes) (byOne (k % plan .lines)), length-one-worker plan (suc k) places)

@@ -10,7 +10,7 @@ use lib.Seq.{drop-length}
 use Rattle.rules.specs.Lists.{Every}
 use Rattle.rules.specs.RunState.{Pipeline, Machine}
 use Rattle.rules.specs.Sources.{Source}
-use Rattle.rules.specs.Choices.{Chosen, Answer, Started, Finished, Stopped, Refused, opened, choose, ended}
+use Rattle.rules.specs.Choices.{Choice, Chosen, Answer, Started, Finished, Stopped, Refused, opened, choose, chooseBy, ended}
 use Rattle.rules.specs.WholeRuns.{PipelineInRange, WorkersInRange, Sheet, events, end, WholeRun}
 use Rattle.rules.specs.WholeRuns.{ordered, Accepted, accepted, lastOf, startsOf, finishesOf, final, oneWorker, Carries, withWorkers}
 use Rattle.rules.specs.PlainSheet.{Row, rows}
@@ -27,6 +27,7 @@ use Rattle.rules.proofs.runs.Count.{total, total-zero, left, left-first
 use Rattle.rules.proofs.runs.Final.{is-final, place-from}
 use Rattle.rules.proofs.runs.Marks.{mark, mark-done, mark-due, mark-one, starts-marked, finishes-marked}
 use Rattle.rules.proofs.runs.OneWorker.{one-worker, length-one-worker}
+use Rattle.rules.proofs.runs.OneLineEach.{one-line-each}
 use Rattle.rules.proofs.choices.Answers.{started-accepted, all-counted, length-answers, split}
 
 module _ {X : Type 0} {S : Source X} {plan : Pipeline} (ranged : PipelineInRange plan)
@@ -35,16 +36,16 @@ module _ {X : Type 0} {S : Source X} {plan : Pipeline} (ranged : PipelineInRange
   allowed : Allowed plan workers order
   allowed = record { ranged = ranged; manned = manned; fits = sheet .fits; known = sheet .known }
 
-  module _ (ls : List ℕ) where
+  module _ (cs : List Choice) where
     -- what the run answers, and where it leads
     abbrev told : List Answer
-    told = events S plan workers x ls
+    told = events S plan workers x cs
 
     abbrev left-at : Machine X
-    left-at = end S plan workers x ls
+    left-at = end S plan workers x cs
 
-    run : Ran S plan order z workers (opening plan x) at-opening ls
-    run = ran allowed ls (opening plan x) at-opening (opening-inv ranged (sheet .writes))
+    run : Ran S plan workers order z (opening plan x) at-opening cs
+    run = ran allowed cs (opening plan x) at-opening (opening-inv ranged manned (sheet .writes))
 
     left-is : left-at ≡ whole plan workers (run .end)
     unfolding opened
@@ -108,26 +109,27 @@ module _ {X : Type 0} {S : Source X} {plan : Pipeline} (ranged : PipelineInRange
         finished-marks p j q (omega arith) ∙ mark-done j (toFinish plan (run .last) (j % plan .lines) p) (omega arith)
 
     -- so a choice that starts a place there comes after those that finished the places before
-    start-in-turn : (i l p t k : ℕ) → choose S left-at i .answer ≡ Started l p t k → serialAt plan p ≡ true → (j : ℕ) → j < k → finishesOf p j told ≡ 1
-    start-in-turn i l p t k e s =
-        let c : Chosen X = choose S (whole plan workers (run .end)) i in
-        let u : c .answer ≡ Started l p t k = ap (λ (m : Machine X). choose S m i .answer) (sym left-is) ∙ e in
-        elim (step allowed (run .kept) i) [
+    start-in-turn : (c : Choice) (l p t k w : ℕ) → chooseBy S left-at c .answer ≡ Started l p t k w → serialAt plan p ≡ true → (j : ℕ) → j < k → finishesOf p j told ≡ 1
+    start-in-turn c l p t k w e s =
+        let i : ℕ = c .line in
+        let d : Chosen X = chooseBy S (whole plan workers (run .end)) c in
+        let u : d .answer ≡ Started l p t k w = ap (λ (m : Machine X). chooseBy S m c .answer) (sym left-is) ∙ e in
+        elim (step allowed (run .kept) (c .worker) i) [
           | refuses n d q ↦ absurd (started-accepted n (sym u ∙ ap (λ (c : Chosen X). c .answer) q))
           | moves m ↦ elim m [
             | stops st′ f n ↦
-                let v : c .answer ≡ Stopped i = next-answer S plan workers order z n in
+                let v : d .answer ≡ Stopped i (c .worker) = next-answer S plan workers order z n in
                 let w : _≡_ {A = ℕ} 0 1 = cc in absurd (omega arith)
             | finishes st′ f n ↦
-                let v : c .answer ≡ Finished i _ _ _ = next-answer S plan workers order z n in
+                let v : d .answer ≡ Finished i _ _ _ (c .worker) = next-answer S plan workers order z n in
                 let w : _≡_ {A = ℕ} 0 1 = cc in absurd (omega arith)
             | enters st′ f n ↦
-                let v : c .answer ≡ Started i 0 _ (run .last .place i) = next-answer S plan workers order z n in
+                let v : d .answer ≡ Started i 0 _ (run .last .place i) (c .worker) = next-answer S plan workers order z n in
                 let a : 0 ≡ p = cc in
                 let b : run .last .place i ≡ k = cc in
                 before-ready i p k (f .ready) (f .first ∙ a) b (omega (arith, f .ordered)) s
             | starts st′ f n ↦
-                let v : c .answer ≡ Started i (run .last .pipe i) _ (run .last .place i) = next-answer S plan workers order z n in
+                let v : d .answer ≡ Started i (run .last .pipe i) _ (run .last .place i) (c .worker) = next-answer S plan workers order z n in
                 let a : run .last .pipe i ≡ p = cc in
                 let b : run .last .place i ≡ k = cc in
                 before-ready i p k (f .ready) a b (omega (arith, f .ordered)) s
@@ -139,57 +141,58 @@ module _ {X : Type 0} {S : Source X} {plan : Pipeline} (ranged : PipelineInRange
     unfolding opened
     unspoiled = never-spoiled (run .trace)
 
-    accepted-here : (l : ℕ) → Move S plan workers order z (run .end) (run .last) l (choose S (whole plan workers (run .end)) l) →
-        Accepted (choose S left-at l .answer)
-    accepted-here l m = rw left-is (move-accepted m)
+    accepted-here : (w l : ℕ) → Move S plan workers order z (run .end) (run .last) w l (choose S (whole plan workers (run .end)) w l) →
+        Accepted (choose S left-at w l .answer)
+    accepted-here w l m = rw left-is (move-accepted m)
 
-    next-move : ended left-at ≡ false → (l : ℕ) × (l < plan .lines) × Accepted (choose S left-at l .answer)
+    next-move : ended left-at ≡ false → (c : Choice) × (c .worker < workers) × (c .line < plan .lines) × Accepted (chooseBy S left-at c .answer)
     next-move e =
         let r = some-move allowed (run .kept) (ap ended (sym left-is) ∙ e) in
-        (r .0, r .1, accepted-here (r .0) (r .2))
+        (record { worker = r .0; line = r .1 }, r .2 .worker, r .2 .line, accepted-here (r .0) (r .1) (r .2 .makes))
 
   -- every list of choices, of any numbers, makes a run as demand 3 says
-  pub whole-run : (ls : List ℕ) → WholeRun S plan workers x ls order z
-  whole-run ls = record {
-    order-part = (rowsFrom plan order (run ls .end .placed), order-so-far ls);
-    order-whole = whole-order ls;
+  pub whole-run : (cs : List Choice) → WholeRun S plan workers x cs order z
+  whole-run cs = record {
+    order-part = (rowsFrom plan order (run cs .end .placed), order-so-far cs);
+    order-whole = whole-order cs;
     count = (
-      λ e. over-count allowed (run ls .kept) _ (balanced ls) (over ls e),
-      λ e. ap ended (left-is ls) ∙ over-ended allowed (run ls .kept) (count-over allowed (run ls .kept) _ (balanced ls) e),
+      λ e. over-count allowed (run cs .kept) _ (balanced cs) (over cs e),
+      λ e. ap ended (left-is cs) ∙ over-ended allowed (run cs .kept) (count-over allowed (run cs .kept) _ (balanced cs) e),
     );
-    end-state = λ e. left-is ls ∙ is-final allowed (run ls .kept) (over ls e);
-    carries = carried ls;
-    at-most-once = λ p k h i. (rw (started-marks ls p k h i) (mark-one k _), rw (finished-marks ls p k h i) (mark-one k _));
-    each-once = all-marked ls;
-    in-turn = λ before after l p t k e s j h.
-        let r = split S (opened plan workers x) ls before (Started l p t k) after e in
-        ap (finishesOf p j) (sym (r .is)) ∙ start-in-turn (r .earlier) (r .choice) l p t k (r .gives) s j h;
-    never-spoiled = unspoiled ls;
-    goes-on = next-move ls;
+    end-state = λ e. left-is cs ∙ is-final allowed (run cs .kept) (over cs e);
+    carries = carried cs;
+    at-most-once = λ p k h i. (rw (started-marks cs p k h i) (mark-one k _), rw (finished-marks cs p k h i) (mark-one k _));
+    each-once = all-marked cs;
+    in-turn = λ before after l p t k w e s j h.
+        let r = split S (opened plan workers x) cs before (Started l p t k w) after e in
+        ap (finishesOf p j) (sym (r .is)) ∙ start-in-turn (r .earlier) (r .choice) l p t k w (r .gives) s j h;
+    never-spoiled = unspoiled cs;
+    goes-on = next-move cs;
+    one-line-each = one-line-each ranged manned sheet cs;
   }
 
 module _ {X : Type 0} {S : Source X} {plan : Pipeline} (ranged : PipelineInRange plan) {x : X} {order : List ℕ} {z : X} (sheet : Sheet S plan x order z) where
   -- (c) two runs that have ended, with whatever workers and choices, have left the same but for the workers
-  pub same-end : {w v : ℕ} → WorkersInRange w → WorkersInRange v → (ls ks : List ℕ) →
-      ended (end S plan w x ls) ≡ true → ended (end S plan v x ks) ≡ true →
-      (n : ℕ) → withWorkers n (end S plan w x ls) ≡ withWorkers n (end S plan v x ks)
+  pub same-end : {w v : ℕ} → WorkersInRange w → WorkersInRange v → (cs ds : List Choice) →
+      ended (end S plan w x cs) ≡ true → ended (end S plan v x ds) ≡ true →
+      (n : ℕ) → withWorkers n (end S plan w x cs) ≡ withWorkers n (end S plan v x ds)
   unfolding final
-  same-end mw mv ls ks e f n =
-      ap (withWorkers n) (whole-run ranged mw sheet ls .end-state e) ∙ sym (ap (withWorkers n) (whole-run ranged mv sheet ks .end-state f))
+  same-end mw mv cs ds e f n =
+      ap (withWorkers n) (whole-run ranged mw sheet cs .end-state e) ∙ sym (ap (withWorkers n) (whole-run ranged mv sheet ds .end-state f))
 
   one-manned : WorkersInRange 1
   one-manned = record { some = omega arith; most = omega arith }
 
   -- (f) the one-worker run: all its choices are accepted, the last stops, and it has ended
   pub one-worker-accepted : Every Accepted (events S plan 1 x (oneWorker plan 0 (length order))) ×
-      ((a : Answer) → lastOf a (events S plan 1 x (oneWorker plan 0 (length order))) ≡ Stopped (length order % plan .lines))
+      ((a : Answer) → lastOf a (events S plan 1 x (oneWorker plan 0 (length order))) ≡ Stopped (length order % plan .lines) 0)
   unfolding opened
   one-worker-accepted = one-worker S plan order z (allowed ranged one-manned sheet) (length order) 0 (omega arith) (opening plan x) at-opening
-      (record { kept = opening-inv ranged (sheet .writes); live = refl; placed = refl; first = λ j h. refl; rests = λ j h. refl })
+      (record { kept = opening-inv ranged one-manned (sheet .writes); live = refl; placed = refl; first = λ j h. refl; rests = λ j h. refl })
 
   -- so the one-worker run has ended
   pub one-worker-ends : ended (end S plan 1 x (oneWorker plan 0 (length order))) ≡ true
   one-worker-ends =
-      let ls : List ℕ = oneWorker plan 0 (length order) in
-      whole-run ranged one-manned sheet ls .count .1
-      (all-counted (events S plan 1 x ls) (one-worker-accepted .0) ∙ length-answers S (opened plan 1 x) ls ∙ length-one-worker plan 0 (length order))
+      let cs : List Choice = oneWorker plan 0 (length order) in
+      whole-run ranged one-manned sheet cs .count .1
+      (all-counted (events S plan 1 x cs) (one-worker-accepted .0) ∙ length-answers S (opened plan 1 x) cs ∙ length-one-worker plan 0 (length order))

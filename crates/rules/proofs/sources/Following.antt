@@ -9,10 +9,10 @@ use lib.ListN.{getD}
 use Rattle.rules.specs.Lists.{Every}
 use Rattle.rules.specs.Sources.{Source, Taken, Spoiled, Nothing, Took, Released, Broken, Passed, Writes, close, write}
 use Rattle.rules.specs.RunState.{Machine, slotOf, counterOf, isSerial}
-use Rattle.rules.specs.Choices.{Refused, next, fall, runningBelow, movable, ended}
+use Rattle.rules.specs.Choices.{Choice, Refused, next, fall, atWork, movable, ended}
 use Rattle.rules.specs.Ranges.{numbersSound, sound}
 use Rattle.rules.specs.Choices.{startFirst, startLater, start, settle, finishWith, finishFirst, finish, move}
-use Rattle.rules.specs.Choices.{choose, answers, follow}
+use Rattle.rules.specs.Choices.{choose, chooseBy, answers, follow}
 use Rattle.rules.specs.RelatedSources.{mapTaken, mapReleased, mapMachine, mapChosen, Follows}
 use Rattle.vocabulary.specs.declared.Slot.{Slot}
 use Rattle.rules.proofs.lists.Tests.{by-test}
@@ -47,9 +47,9 @@ module _ {X Y : Type 0} {f : X → Y} {S : Source X} {T : Source Y} (follows : F
       write (sound-as x s) (takes-as x e (λ q. let z : _≡_ {A = ℕ} 0 1 = cc in omega arith)) (sound-as y s′)
       (releases-as t y r (λ q. let z : _≡_ {A = ℕ} 0 1 = cc in omega arith)) (writes-map later)
 
-  module _ (m : Machine X) (l : ℕ) where
+  module _ (m : Machine X) (w l : ℕ) where
     -- a start at pipe 0, whatever the source gives
-    start-first-map : (o : Taken X) → startFirst T (mapMachine f m) l (mapTaken f o) ≡ mapChosen f (startFirst S m l o)
+    start-first-map : (o : Taken X) → startFirst T (mapMachine f m) w l (mapTaken f o) ≡ mapChosen f (startFirst S m w l o)
     unfolding startFirst
     start-first-map Spoiled = refl
     start-first-map (Nothing x) = refl
@@ -74,7 +74,7 @@ module _ {X Y : Type 0} {f : X → Y} {S : Source X} {T : Source Y} (follows : F
     finish-first-map s (Passed x) = finish-with-map s x
 
     -- a start and a finish, where a spoiled taking or a broken release has not been answered by 14
-    start-map : (start S m l .answer ≡ Refused 14 → ⊥) → start T (mapMachine f m) l ≡ mapChosen f (start S m l)
+    start-map : (start S m w l .answer ≡ Refused 14 → ⊥) → start T (mapMachine f m) w l ≡ mapChosen f (start S m w l)
     unfolding start startFirst startLater
     start-map n = by-test (eqb (slotOf m l .pipe .0) 0)
         (λ e. rw (e, follows .takes (m .source) (λ q. n (rw (e, q)))) (start-first-map (S .take (m .source))))
@@ -88,14 +88,16 @@ module _ {X Y : Type 0} {f : X → Y} {S : Source X} {T : Source Y} (follows : F
         (finish-first-map (slotOf m l) (S .release (slotOf m l .token .0) (m .source))))
         (λ e. rw e (finish-with-map (slotOf m l) (m .source)))
 
-    move-map : (move S m l .answer ≡ Refused 14 → ⊥) → move T (mapMachine f m) l ≡ mapChosen f (move S m l)
+    move-map : (move S m w l .answer ≡ Refused 14 → ⊥) → move T (mapMachine f m) w l ≡ mapChosen f (move S m w l)
     unfolding move
     move-map n = by-test (slotOf m l .running)
-        (λ e. rw e (finish-map (rw e at n)))
+        (λ e. rw e (by-test (eqb (slotOf m l .worker .0) w)
+        (λ o. rw o (finish-map (rw (e, o) at n)))
+        (λ o. rw o)))
         (λ e. rw e (by-test (eqb (counterOf m l (slotOf m l .pipe .0)) 0)
-        (λ c. rw c (by-test (ltb (runningBelow (m .slots) (m .lines)) (m .workers))
-        (λ w. rw w (start-map (rw (e, c, w) at n)))
-        (λ w. rw w)))
+        (λ c. rw c (by-test (atWork (m .slots) w (m .lines))
+        (λ o. rw o)
+        (λ o. rw o (start-map (rw (e, c, o) at n)))))
         (λ c. rw c)))
 
     sound-map : sound T (mapMachine f m) ≡ sound S m
@@ -103,25 +105,27 @@ module _ {X Y : Type 0} {f : X → Y} {S : Source X} {T : Source Y} (follows : F
     sound-map = rw (follows .sounds (m .source))
 
     -- one choice
-    pub choose-map : (choose S m l .answer ≡ Refused 14 → ⊥) → choose T (mapMachine f m) l ≡ mapChosen f (choose S m l)
+    pub choose-map : (choose S m w l .answer ≡ Refused 14 → ⊥) → choose T (mapMachine f m) w l ≡ mapChosen f (choose S m w l)
     unfolding choose
     choose-map n = rw (sound-map, ended-map f m) (by-test (sound S m)
         (λ s. rw s (by-test (ltb l (m .lines))
-        (λ i. rw i (by-test (ended m)
+        (λ i. rw i (by-test (ltb w (m .workers))
+        (λ d. rw d (by-test (ended m)
         (λ e. rw e)
-        (λ e. rw e (move-map (rw (s, i, e) at n)))))
+        (λ e. rw e (move-map (rw (s, i, d, e) at n)))))
+        (λ d. rw d)))
         (λ i. rw i)))
         (λ s. rw s))
 
   -- a list of choices: the answers are the same, and the machine that is left is that of the other run, by the map
-  pub answers-map : (m : Machine X) (ls : List ℕ) → Every (λ a. a ≡ Refused 14 → ⊥) (answers S m ls) →
-      answers T (mapMachine f m) ls ≡ answers S m ls
+  pub answers-map : (m : Machine X) (cs : List Choice) → Every (λ a. a ≡ Refused 14 → ⊥) (answers S m cs) →
+      answers T (mapMachine f m) cs ≡ answers S m cs
   unfolding answers
   answers-map m [] h = refl
-  answers-map m (l ∷ ls) h = rw (choose-map m l (h .0), answers-map (choose S m l .machine) ls (h .1))
+  answers-map m (c ∷ cs) h = rw (choose-map m (c .worker) (c .line) (h .0), answers-map (chooseBy S m c .machine) cs (h .1))
 
-  pub follow-map : (m : Machine X) (ls : List ℕ) → Every (λ a. a ≡ Refused 14 → ⊥) (answers S m ls) →
-      follow T (mapMachine f m) ls ≡ mapMachine f (follow S m ls)
+  pub follow-map : (m : Machine X) (cs : List Choice) → Every (λ a. a ≡ Refused 14 → ⊥) (answers S m cs) →
+      follow T (mapMachine f m) cs ≡ mapMachine f (follow S m cs)
   unfolding answers follow
   follow-map m [] h = refl
-  follow-map m (l ∷ ls) h = rw (choose-map m l (h .0), follow-map (choose S m l .machine) ls (h .1))
+  follow-map m (c ∷ cs) h = rw (choose-map m (c .worker) (c .line) (h .0), follow-map (chooseBy S m c .machine) cs (h .1))

@@ -5,16 +5,16 @@ use lib.Dec.{ltb, eqb}
 use lib.ListN.{getD}
 use Rattle.rules.specs.Sources.{Source, Taken, Spoiled, Nothing, Took, Released, Broken, Passed}
 use Rattle.rules.specs.RunState.{Machine, slotOf, counterOf, isSerial}
-use Rattle.rules.specs.Choices.{next, fall, runningBelow, ended}
+use Rattle.rules.specs.Choices.{Choice, next, fall, atWork, ended}
 use Rattle.rules.specs.Ranges.{sound}
-use Rattle.rules.specs.Choices.{startFirst, startLater, start, settle, finishWith, finishFirst, finish, move, choose, follow}
+use Rattle.rules.specs.Choices.{startFirst, startLater, start, settle, finishWith, finishFirst, finish, move, choose, chooseBy, follow}
 use Rattle.rules.specs.RelatedSources.{OnTaken, OnReleased, Keeps}
 use Rattle.vocabulary.specs.declared.Slot.{Slot}
 use Rattle.rules.proofs.lists.Tests.{by-test}
 
 module _ {X : Type 0} {P : X → Type 0} {S : Source X} (keeps : Keeps P S) where
-  module _ (m : Machine X) (held : P (m .source)) (l : ℕ) where
-    start-first-keeps : (o : Taken X) → OnTaken P o → P (startFirst S m l o .machine .source)
+  module _ (m : Machine X) (held : P (m .source)) (w l : ℕ) where
+    start-first-keeps : (o : Taken X) → OnTaken P o → P (startFirst S m w l o .machine .source)
     unfolding startFirst
     start-first-keeps Spoiled h = held
     start-first-keeps (Nothing x) h = h
@@ -37,7 +37,7 @@ module _ {X : Type 0} {P : X → Type 0} {S : Source X} (keeps : Keeps P S) wher
     finish-first-keeps s Broken h = held
     finish-first-keeps s (Passed x) h = finish-with-keeps s x h
 
-    start-keeps : P (start S m l .machine .source)
+    start-keeps : P (start S m w l .machine .source)
     unfolding start startLater
     start-keeps = by-test (eqb (slotOf m l .pipe .0) 0)
         (λ e. rw e (start-first-keeps (S .take (m .source)) (keeps .takes (m .source) held)))
@@ -49,24 +49,26 @@ module _ {X : Type 0} {P : X → Type 0} {S : Source X} (keeps : Keeps P S) wher
         (λ e. rw e (finish-first-keeps (slotOf m l) (S .release (slotOf m l .token .0) (m .source)) (keeps .releases (slotOf m l .token .0) (m .source) held)))
         (λ e. rw e (finish-with-keeps (slotOf m l) (m .source) held))
 
-    move-keeps : P (move S m l .machine .source)
+    move-keeps : P (move S m w l .machine .source)
     unfolding move
     move-keeps = by-test (slotOf m l .running)
-        (λ e. rw e finish-keeps)
+        (λ e. rw e (by-test (eqb (slotOf m l .worker .0) w) (λ o. rw o finish-keeps) (λ o. rw o held)))
         (λ e. rw e (by-test (eqb (counterOf m l (slotOf m l .pipe .0)) 0)
-        (λ c. rw c (by-test (ltb (runningBelow (m .slots) (m .lines)) (m .workers)) (λ w. rw w start-keeps) (λ w. rw w held)))
+        (λ c. rw c (by-test (atWork (m .slots) w (m .lines)) (λ o. rw o held) (λ o. rw o start-keeps)))
         (λ c. rw c held)))
 
-    pub choose-keeps : P (choose S m l .machine .source)
+    pub choose-keeps : P (choose S m w l .machine .source)
     unfolding choose
     choose-keeps = by-test (sound S m)
         (λ s. rw s (by-test (ltb l (m .lines))
-        (λ i. rw i (by-test (ended m) (λ e. rw e held) (λ e. rw e move-keeps)))
+        (λ i. rw i (by-test (ltb w (m .workers))
+        (λ d. rw d (by-test (ended m) (λ e. rw e held) (λ e. rw e move-keeps)))
+        (λ d. rw d held)))
         (λ i. rw i held)))
         (λ s. rw s held)
 
   -- a list of choices
-  pub follow-keeps : (m : Machine X) → P (m .source) → (ls : List ℕ) → P (follow S m ls .source)
+  pub follow-keeps : (m : Machine X) → P (m .source) → (cs : List Choice) → P (follow S m cs .source)
   unfolding follow
   follow-keeps m held [] = held
-  follow-keeps m held (l ∷ ls) = follow-keeps (choose S m l .machine) (choose-keeps m held l) ls
+  follow-keeps m held (c ∷ cs) = follow-keeps (chooseBy S m c .machine) (choose-keeps m held (c .worker) (c .line)) cs

@@ -12,7 +12,7 @@ use Rattle.vocabulary.specs.declared.Slot.{Slot}
 use Rattle.vocabulary.specs.declared.Slots.{Slots}
 use Rattle.rules.specs.RunState.{slotAt}
 use Rattle.rules.specs.Choices.{movable, ended}
-use Rattle.rules.specs.Ranges.{isIdle, isLoaded, slotSound, serialSound, numbersSound, sound}
+use Rattle.rules.specs.Ranges.{isIdle, isLoaded, workerSound, slotSound, serialSound, numbersSound, sound}
 use Rattle.tables.specs.Calls.{memorySource}
 use Rattle.state.specs.declared.State.{State}
 use Rattle.state.specs.declared.Figures.{Figures}
@@ -53,10 +53,10 @@ module _ (s : State) (mem : List ℕ) (ok : sound memorySource (machineOf s mem)
   unfolding sound
   numbers-ok = first-holds (numbersSound (machineOf s mem)) _ ok
 
-  slots-ok : every 32 (slotSound (s .pipes) (s .lines) (s .tables .tokens) (slotsOf s)) ≡ true
+  slots-ok : every 32 (slotSound (s .pipes) (s .lines) (s .tables .tokens) (s .workers) (slotsOf s)) ≡ true
   unfolding sound machineOf
   slots-ok =
-      first-holds (every 32 (slotSound (s .pipes) (s .lines) (s .tables .tokens) (slotsOf s))) _
+      first-holds (every 32 (slotSound (s .pipes) (s .lines) (s .tables .tokens) (s .workers) (slotsOf s))) _
       (rest-hold (every 16 (serialSound (s .pipes) (s .serial))) _ (rest-hold (numbersSound (machineOf s mem)) _ ok))
 
   pipes-ok : within 1 16 (s .pipes) ≡ true
@@ -81,11 +81,12 @@ module _ (s : State) (mem : List ℕ) (ok : sound memorySource (machineOf s mem)
   unfolding slotSound
   pipe-less l h =
       let slot : Slot = slotIn s l in
-      let e : slotSound (s .pipes) (s .lines) (s .tables .tokens) (slotsOf s) l ≡ true = every-at 32 l _ h slots-ok in
+      let e : slotSound (s .pipes) (s .lines) (s .tables .tokens) (s .workers) (slotsOf s) l ≡ true = every-at 32 l _ h slots-ok in
       by-test (isIdle slot)
       (λ i. let z : slot .pipe .0 ≡ 0 = idle-pipe slot i in omega (arith, pipes-some))
       (λ i. loaded-pipe slot (s .pipes) (s .tables .tokens)
-      (first-holds (isLoaded (s .pipes) (s .tables .tokens) slot) _ (rest-hold (ltb l (s .lines)) _ (rw i at e))))
+      (first-holds (isLoaded (s .pipes) (s .tables .tokens) slot) _
+      (rest-hold (ltb l (s .lines)) _ (rw i at (rest-hold (workerSound (s .workers) slot) _ e)))))
 
   -- no line below n can move
   still-lines : (n : ℕ) → n ≤ s .lines → every n (isStill (s .counters) (slotsOf s)) ≡ not (movable (machineOf s mem) n)

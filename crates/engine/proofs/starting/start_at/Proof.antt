@@ -17,7 +17,7 @@ returns : tie.Need-returns
 returns c =
     let after-refill = c .before in
     let start = after-refill .before .before .before .before .before .before in
-    laws.started-with (start .args .f) (start .args .line) (start .args .slot) (after-refill .refill .ensures)
+    laws.started-with (start .args .f) (start .args .worker) (start .args .line) (start .args .slot) (after-refill .refill .ensures)
 
 pub start-at-spec : {M : Type 1} → statement M
 start-at-spec = tie.close (tie.spec cast-refill cast-refill-2 refill-requires returns)

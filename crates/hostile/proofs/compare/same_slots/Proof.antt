@@ -55,6 +55,18 @@ mul-same-6 c = search needs
 element-copy-out-same-8 : tie.Need-element-copy-out-same-8 Inv-loop μ-loop
 element-copy-out-same-8 c = search needs
 
+mul-same-7 : tie.Need-mul-same-7 Inv-loop μ-loop
+mul-same-7 c = search needs
+
+element-copy-out-same-9 : tie.Need-element-copy-out-same-9 Inv-loop μ-loop
+element-copy-out-same-9 c = search needs
+
+mul-same-8 : tie.Need-mul-same-8 Inv-loop μ-loop
+mul-same-8 c = search needs
+
+element-copy-out-same-10 : tie.Need-element-copy-out-same-10 Inv-loop μ-loop
+element-copy-out-same-10 c = search needs
+
 add-i : tie.Need-add-i Inv-loop μ-loop
 add-i c = search needs
 
@@ -88,6 +100,10 @@ same-slots-spec =
     element-copy-out-same-7
     mul-same-6
     element-copy-out-same-8
+    mul-same-7
+    element-copy-out-same-9
+    mul-same-8
+    element-copy-out-same-10
     add-i
     loop-less
     loop-again

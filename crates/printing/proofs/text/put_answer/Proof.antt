@@ -25,14 +25,8 @@ put-event-requires-2 c κs = search needs
 enum-known-answer-3 : tie.Need-enum-known-answer-3
 enum-known-answer-3 c = search needs
 
-slice-aggregate-put-short : tie.Need-slice-aggregate-put-short
-slice-aggregate-put-short c = search needs
-
-cast-put-short : tie.Need-cast-put-short
-cast-put-short c = search needs
-
-put-short-requires : tie.Need-put-short-requires
-put-short-requires c κs = search needs
+put-stop-requires : tie.Need-put-stop-requires
+put-stop-requires c κs = search needs
 
 enum-known-answer-4 : tie.Need-enum-known-answer-4
 enum-known-answer-4 c = search needs
@@ -61,8 +55,8 @@ same-length-3 c = search needs
 
 returns-3 : tie.Need-returns-3
 returns-3 c =
-    let at-short = c .before .before in
-    laws.put-stopped _ (at-short .before .before .before .before .before .answer3 .given .1) (at-short .put-short .ensures)
+    let at-stop = c .before .before in
+    laws.put-stopped _ (at-stop .before .before .before .answer3 .given .1) (at-stop .put-stop .ensures)
 
 same-length-4 : tie.Need-same-length-4
 same-length-4 c = search needs
@@ -83,9 +77,7 @@ put-answer-spec =
     slice-aggregate-put-event-2
     put-event-requires-2
     enum-known-answer-3
-    slice-aggregate-put-short
-    cast-put-short
-    put-short-requires
+    put-stop-requires
     enum-known-answer-4
     put-refusal-requires
     same-length

@@ -1,4 +1,4 @@
--- `put_step` puts the four numbers of a step, and ends the line.
+-- `put_step` puts the five numbers of a step, and ends the line.
 use native.Mathlib.Omega.{arith}
 use borrow.Author.Needs.{needs}
 use Rattle.printing.proofs.Lines as laws
@@ -29,22 +29,22 @@ cast-put-number-4 c = search needs
 put-number-requires-4 : tie.Need-put-number-requires-4
 put-number-requires-4 c κs = search needs
 
-slice-aggregate-put : tie.Need-slice-aggregate-put
-slice-aggregate-put c = search needs
+cast-put-last : tie.Need-cast-put-last
+cast-put-last c = search needs
 
-put-requires : tie.Need-put-requires
-put-requires c κs = search needs
+put-last-requires : tie.Need-put-last-requires
+put-last-requires c κs = search needs
 
 same-length : tie.Need-same-length
 same-length c =
-    let at-put = c .before .before in
-    let at-place = at-put .before .before .before .before .before in
+    let at-worker = c .before .before in
+    let at-place = at-worker .before .before .before .before .before in
     let at-token = at-place .before .before .before .before .before in
     let at-pipe = at-token .before .before .before .before .before in
     let at-line = at-pipe .before .before .before .before .before in
     omega (
       arith,
-      at-put .put .kept .1 .0,
+      at-worker .put-last .kept .1 .0,
       at-place .put-number4 .kept .1 .0,
       at-token .put-number3 .kept .1 .0,
       at-pipe .put-number2 .kept .1 .0,
@@ -53,13 +53,13 @@ same-length c =
 
 returns : tie.Need-returns
 returns c =
-    let at-put = c .before .before in
-    let at-place = at-put .before .before .before .before .before in
+    let at-worker = c .before .before in
+    let at-place = at-worker .before .before .before .before .before in
     let at-token = at-place .before .before .before .before .before in
     let at-pipe = at-token .before .before .before .before .before in
     let at-line = at-pipe .before .before .before .before .before in
-    laws.put-step _ _ _ _ _ (at-line .put-number .ensures) (at-pipe .put-number2 .ensures) (at-token .put-number3 .ensures)
-    (at-place .put-number4 .ensures) (at-put .put .ensures)
+    laws.put-step _ _ _ _ _ _ (at-line .put-number .ensures) (at-pipe .put-number2 .ensures) (at-token .put-number3 .ensures)
+    (at-place .put-number4 .ensures) (at-worker .put-last .ensures)
 
 pub put-step-spec : {M : Type 1} → statement M
 put-step-spec =
@@ -73,7 +73,7 @@ put-step-spec =
     put-number-requires-3
     cast-put-number-4
     put-number-requires-4
-    slice-aggregate-put
-    put-requires
+    cast-put-last
+    put-last-requires
     same-length
     returns)

@@ -1,47 +1,25 @@
 -- `state::slots::slot_sound` meets its contract.
 use mathlib.Core.Path.{_∙_}
 use borrow.Author.Needs.{needs}
-use Rattle.ranges.proofs.in_range.SlotLaws.{slot-is}
+use Rattle.ranges.proofs.in_range.SlotLaws.{worker-is}
 use Rattle.ranges.proofs.slots.slot_sound.Statement.{statement}
 use Rattle.ranges.proofs.slots.slot_sound.Tie as tie
 
-either-requires : tie.Need-either-requires
-either-requires c κs = search needs
-
-larger-requires : tie.Need-larger-requires
-larger-requires c κs = search needs
-
-bound-requires : tie.Need-bound-requires
-bound-requires c κs = search needs
-
 held-sound-requires : tie.Need-held-sound-requires
 held-sound-requires c κs = search needs
+
+load-sound-requires : tie.Need-load-sound-requires
+load-sound-requires c κs = search needs
 
 both-requires : tie.Need-both-requires
 both-requires c κs = search needs
 
 returns : tie.Need-returns
 returns c =
-    let after-held = c .before .before in
-    let after-bound = after-held .before in
-    let after-larger = after-bound .before in
-    let after-either = after-larger .before in
-    let start = after-either .before .before in
-    c .both .ensures ∙
-    rw (
-      after-held .held-sound .ensures,
-      after-bound .bound .ensures,
-      after-larger .larger .ensures,
-      after-either .either .ensures,
-    ) (slot-is (start .args .s) (start .args .used) (start .args .pipes) (start .args .tokens) (start .pre))
+    let after-load = c .before in
+    let after-held = after-load .before in
+    c .both .ensures ∙ rw (after-held .held-sound .ensures, after-load .load-sound .ensures, worker-is)
 
 pub slot-sound-spec : {M : Type 1} → statement M
 slot-sound-spec =
-    tie.close
-    (tie.spec
-    either-requires
-    larger-requires
-    bound-requires
-    held-sound-requires
-    both-requires
-    returns)
+    tie.close (tie.spec held-sound-requires load-sound-requires both-requires returns)

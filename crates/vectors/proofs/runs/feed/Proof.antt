@@ -1,16 +1,16 @@
 -- `feed` is safe and ends: it counts down what is left to make.
 use mathlib.Core.Path.{_≡_}
-use Prim.Native.Nat.{_<_, _^_}
 use lib.ListN.{length}
 use borrow.Author.Needs.{needs}
 use Rattle.vectors.proofs.runs.feed.Statement.{statement}
 use Rattle.vectors.proofs.runs.feed.Tie as tie
 
 abbrev Inv-loop : tie.InvT-loop
-Inv-loop choices mem₀ out₀ now₀ seed₀ modulus left₀ mem out now seed left = (length mem ≡ length mem₀) × (length out ≡ length out₀) × (left < 2 ^ 64)
+Inv-loop choices mem₀ out₀ now₀ seed₀ modulus workers left₀ mem out now seed left =
+    (length mem ≡ length mem₀) × (length out ≡ length out₀)
 
 abbrev μ-loop : tie.MeasureT-loop
-μ-loop choices mem₀ out₀ now₀ seed₀ modulus left₀ mem out now seed left = left
+μ-loop choices mem₀ out₀ now₀ seed₀ modulus workers left₀ mem out now seed left = left
 
 feed-requires : tie.Need-feed-requires Inv-loop μ-loop
 feed-requires c κs = search needs
@@ -21,8 +21,11 @@ loop-holds c = search needs
 next-seed-requires : tie.Need-next-seed-requires Inv-loop μ-loop
 next-seed-requires c κs = search needs
 
-choice-of-requires : tie.Need-choice-of-requires Inv-loop μ-loop
-choice-of-requires c κs = search needs
+line-of-requires : tie.Need-line-of-requires Inv-loop μ-loop
+line-of-requires c κs = search needs
+
+worker-of-requires : tie.Need-worker-of-requires Inv-loop μ-loop
+worker-of-requires c κs = search needs
 
 choose-requires : tie.Need-choose-requires Inv-loop μ-loop
 choose-requires c κs = search needs
@@ -54,7 +57,8 @@ feed-spec =
     feed-requires
     loop-holds
     next-seed-requires
-    choice-of-requires
+    line-of-requires
+    worker-of-requires
     choose-requires
     sub-left
     loop-less

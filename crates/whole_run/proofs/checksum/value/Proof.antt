@@ -23,11 +23,8 @@ add-result c = search needs
 enum-known-answer-3 : tie.Need-enum-known-answer-3
 enum-known-answer-3 c = search needs
 
-wide-requires : tie.Need-wide-requires
-wide-requires c κs = search needs
-
-mul-result : tie.Need-mul-result
-mul-result c = search needs
+stop-value-requires : tie.Need-stop-value-requires
+stop-value-requires c κs = search needs
 
 add-result-2 : tie.Need-add-result-2
 add-result-2 c = search needs
@@ -38,11 +35,11 @@ enum-known-answer-4 c = search needs
 number-requires : tie.Need-number-requires
 number-requires c κs = search needs
 
-wide-requires-2 : tie.Need-wide-requires-2
-wide-requires-2 c κs = search needs
+wide-requires : tie.Need-wide-requires
+wide-requires c κs = search needs
 
-mul-result-2 : tie.Need-mul-result-2
-mul-result-2 c = search needs
+mul-result : tie.Need-mul-result
+mul-result c = search needs
 
 add-result-3 : tie.Need-add-result-3
 add-result-3 c = search needs
@@ -54,10 +51,10 @@ returns-2 : tie.Need-returns-2
 returns-2 c = (laws.value-finished (c .before .before .answer2 .given .1) (c .step-value2 .ensures .0), omega (arith, c .step-value2 .ensures .1))
 
 returns-3 : tie.Need-returns-3
-returns-3 c = (laws.value-stopped (c .before .before .answer3 .given .1) (c .wide .ensures .0), omega (arith, c .wide .ensures .1))
+returns-3 c = (laws.value-stopped (c .before .before .answer3 .given .1) (c .stop-value .ensures .0), omega (arith, c .stop-value .ensures .1))
 
 returns-4 : tie.Need-returns-4
-returns-4 c = (laws.value-refused (c .before .before .before .answer4 .given .1) (c .before .number .ensures) (c .wide2 .ensures .0), omega (arith, c .wide2 .ensures .1))
+returns-4 c = (laws.value-refused (c .before .before .before .answer4 .given .1) (c .before .number .ensures) (c .wide .ensures .0), omega (arith, c .wide .ensures .1))
 
 pub value-spec : {M : Type 1} → statement M
 value-spec =
@@ -69,13 +66,12 @@ value-spec =
     step-value-requires-2
     add-result
     enum-known-answer-3
-    wide-requires
-    mul-result
+    stop-value-requires
     add-result-2
     enum-known-answer-4
     number-requires
-    wide-requires-2
-    mul-result-2
+    wide-requires
+    mul-result
     add-result-3
     returns
     returns-2

@@ -1,0 +1,125 @@
+-- The worker that goes with a line: where any worker's choice of it is accepted, so is this one's, with the same event but for the worker.
+use mathlib.Core.Path.{_≡_, refl, sym, ap, _∙_}
+use mathlib.Core.Bool.{true, false}
+use Prim.Native.Nat.{ℕ, zero, suc, _+_, _≤_, _<_}
+use native.Mathlib.Omega.{arith}
+use lib.Dec.{ltb, eqb}
+use borrow.Author.Tests.{eqb-true, ltb-true, lt-ltb}
+use Rattle.vocabulary.specs.declared.Slots.{Slots}
+use Rattle.rules.specs.RunState.{Machine, slotOf, counterOf}
+use Rattle.rules.specs.Sources.{Source, Taken, Spoiled, Nothing, Took}
+use Rattle.rules.specs.Ranges.{sound}
+use Rattle.rules.specs.Choices.{atWork, ended, startFirst, startLater, start, move, choose}
+use Rattle.rules.specs.Workers.{firstIdle, workerFor, withoutWorker}
+use Rattle.rules.specs.WholeRuns.{Accepted}
+use Rattle.rules.proofs.lists.Tests.{by-test, same, other, sameAs, holds, fails, see, never}
+
+-- the idle worker with the smallest number, of so many from w on
+pub record FirstIdle (s : Slots) (lines w left v : ℕ) : Type 0 where
+  pub from : w ≤ v
+  pub below : v < w + left
+  pub idle : atWork s v lines ≡ false
+  pub least : (u : ℕ) → w ≤ u → u < v → atWork s u lines ≡ true
+
+module _ (s : Slots) (lines : ℕ) where
+  -- where one is idle, it is found
+  pub first-idle : (left w u : ℕ) → w ≤ u → u < w + left → atWork s u lines ≡ false → FirstIdle s lines w left (firstIdle s lines w left)
+  unfolding firstIdle
+  first-idle zero w u a b o = absurd (omega arith)
+  first-idle (suc left) w u a b o = elim (see (atWork s w lines)) [
+    | fails e ↦ rw e (record { from = omega arith; below = omega arith; idle = e; least = λ v c d. absurd (omega arith) })
+    | holds e ↦ elim (sameAs u w) [
+      | same q t ↦ absurd (never (sym e ∙ ap (λ v. atWork s v lines) (sym q) ∙ o))
+      | other q t ↦
+          let r : FirstIdle s lines (suc w) left (firstIdle s lines (suc w) left) = first-idle left (suc w) u (omega arith) (omega arith) o in
+          rw e (record {
+            from = omega (arith, r .from);
+            below = omega (arith, r .below);
+            idle = r .idle;
+            least = λ v c d. elim (sameAs v w) [ same p t ↦ rw p e | other p t ↦ r .least v (omega arith) d ];
+          })
+    ]
+  ]
+
+  -- where none is, it is worker 0
+  pub none-idle : (left w : ℕ) → ((u : ℕ) → w ≤ u → u < w + left → atWork s u lines ≡ true) → firstIdle s lines w left ≡ 0
+  unfolding firstIdle
+  none-idle zero w all = refl
+  none-idle (suc left) w all = rw (all w (omega arith) (omega arith)) (none-idle left (suc w) (λ u a b. all u (omega arith) (omega arith)))
+
+module _ {X : Type 0} (S : Source X) (m : Machine X) (l : ℕ) where
+  -- the worker that goes with a line that runs, and with one that waits
+  pub worker-runs : slotOf m l .running ≡ true → workerFor m l ≡ slotOf m l .worker .0
+  unfolding workerFor
+  worker-runs r = rw r
+
+  pub worker-waits : slotOf m l .running ≡ false → workerFor m l ≡ firstIdle (m .slots) (m .lines) 0 (m .workers)
+  unfolding workerFor
+  worker-waits r = rw r
+
+  -- a start is the same whoever makes it, but for the worker
+  first-same : (v w : ℕ) (o : Taken X) → withoutWorker (startFirst S m v l o .answer) ≡ withoutWorker (startFirst S m w l o .answer)
+  unfolding startFirst withoutWorker
+  first-same v w Spoiled = refl
+  first-same v w (Nothing x) = refl
+  first-same v w (Took t x) = by-test (ltb (m .placed) (m .tokens)) (λ e. rw e) (λ e. rw e)
+
+  start-same : (v w : ℕ) → withoutWorker (start S m v l .answer) ≡ withoutWorker (start S m w l .answer)
+  unfolding start startLater withoutWorker
+  start-same v w = by-test (eqb (slotOf m l .pipe .0) 0) (λ e. rw e (first-same v w (S .take (m .source)))) (λ e. rw e)
+
+  module _ (w : ℕ) (accepts : Accepted (choose S m w l .answer)) where
+    -- what an accepted choice has passed
+    is-sound : sound S m ≡ true
+    unfolding choose
+    is-sound = by-test (sound S m) (λ e. e) (λ e. absurd (accepts 14 (rw e)))
+
+    is-line : ltb l (m .lines) ≡ true
+    unfolding choose
+    is-line = by-test (ltb l (m .lines)) (λ e. e) (λ e. absurd (accepts 10 (rw (is-sound, e))))
+
+    is-worker : ltb w (m .workers) ≡ true
+    unfolding choose
+    is-worker = by-test (ltb w (m .workers)) (λ e. e) (λ e. absurd (accepts 26 (rw (is-sound, is-line, e))))
+
+    is-open : ended m ≡ false
+    unfolding choose
+    is-open = by-test (ended m) (λ e. absurd (accepts 11 (rw (is-sound, is-line, is-worker, e)))) (λ e. e)
+
+    -- a finish is by the line's own worker
+    own : slotOf m l .running ≡ true → slotOf m l .worker .0 ≡ w
+    unfolding choose move
+    own r = by-test (eqb (slotOf m l .worker .0) w)
+        (λ e. eqb-true (slotOf m l .worker .0) w e)
+        (λ e. absurd (accepts 26 (rw (is-sound, is-line, is-worker, is-open, r, e))))
+
+    module _ (r : slotOf m l .running ≡ false) where
+      is-due : eqb (counterOf m l (slotOf m l .pipe .0)) 0 ≡ true
+      unfolding choose move
+      is-due = by-test (eqb (counterOf m l (slotOf m l .pipe .0)) 0)
+          (λ e. e)
+          (λ e. absurd (accepts 12 (rw (is-sound, is-line, is-worker, is-open, r, e))))
+
+      is-idle : atWork (m .slots) w (m .lines) ≡ false
+      unfolding choose move
+      is-idle = by-test (atWork (m .slots) w (m .lines))
+          (λ e. absurd (accepts 13 (rw (is-sound, is-line, is-worker, is-open, r, is-due, e))))
+          (λ e. e)
+
+      -- a start by an idle worker below W
+      starts : (v : ℕ) → v < m .workers → atWork (m .slots) v (m .lines) ≡ false → choose S m v l ≡ start S m v l
+      unfolding choose move
+      starts v h o = rw (is-sound, is-line, lt-ltb v (m .workers) h, is-open, r, is-due, o)
+
+      waits-same : withoutWorker (choose S m (workerFor m l) l .answer) ≡ withoutWorker (choose S m w l .answer)
+      waits-same =
+          let h : w < m .workers = ltb-true w (m .workers) is-worker in
+          let v : ℕ = firstIdle (m .slots) (m .lines) 0 (m .workers) in
+          let f : FirstIdle (m .slots) (m .lines) 0 (m .workers) v = first-idle (m .slots) (m .lines) (m .workers) 0 w (omega arith) (omega arith) is-idle in
+          rw (worker-waits r, starts v (omega (arith, f .below)) (f .idle), starts w h is-idle) (start-same v w)
+
+    -- so the choice by the line's worker has the same event, but for the worker
+    pub practice-same : withoutWorker (choose S m (workerFor m l) l .answer) ≡ withoutWorker (choose S m w l .answer)
+    practice-same = by-test (slotOf m l .running)
+        (λ r. ap (λ v. withoutWorker (choose S m v l .answer)) (worker-runs r ∙ own r))
+        (λ r. waits-same r)
