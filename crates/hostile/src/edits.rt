@@ -140,7 +140,7 @@ fn edited(run: Run, letter: u8, at: u16, n: u16) -> Run {
 // The run with the edits of a try, which end with a colon.
 pub fn spoiled(fd: i32, run: Run) -> Run {
     let mut now = run;
-    let mut left: u8 = 8;
+    let mut left: u8 = 16;
     while left > 0 {
         let letter = stored::byte(fd);
         if letter == b':' {

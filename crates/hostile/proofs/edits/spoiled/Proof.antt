@@ -5,7 +5,7 @@ use Rattle.hostile.proofs.edits.spoiled.Statement.{statement}
 use Rattle.hostile.proofs.edits.spoiled.Tie as tie
 
 abbrev Inv-loop : tie.InvT-loop
-Inv-loop fd now₀ left₀ now left = left ≤ 8
+Inv-loop fd now₀ left₀ now left = left ≤ 16
 
 abbrev μ-loop : tie.MeasureT-loop
 μ-loop fd now₀ left₀ now left = left
