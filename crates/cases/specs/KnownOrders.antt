@@ -36,16 +36,16 @@ module _ (c : Case) (order : List ℕ) where
   abbrev begun : Machine Tables
   begun = opened (pipelineOf c) 1 tables.opened
 
-  abbrev choicesOf : List Choice
-  choicesOf = oneWorker (pipelineOf c) 0 (length order)
+  abbrev oneWorkerList : List Choice
+  oneWorkerList = oneWorker (pipelineOf c) 0 (length order)
 
   -- its answers
   unfoldable pub told : List Answer
-  told = answers (plainSource (c .tokens) (numbersOf (c .records))) begun choicesOf
+  told = answers (plainSource (c .tokens) (numbersOf (c .records))) begun oneWorkerList
 
   -- the number of its choices, if they end it
   unfoldable pub endedAfter : ℕ
-  endedAfter = must (ended (follow (plainSource (c .tokens) (numbersOf (c .records))) begun choicesOf)) 0 (length choicesOf)
+  endedAfter = must (ended (follow (plainSource (c .tokens) (numbersOf (c .records))) begun oneWorkerList)) 0 (length oneWorkerList)
 
 -- what the rules give
 unfoldable pub outcome : Case → Outcome

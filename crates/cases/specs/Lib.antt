@@ -1,2 +1,4 @@
--- "Plans with known orders".
+-- "Plans with known orders";
 pub mod KnownOrders
+-- and the example of lines listed alone.
+pub mod LinesAlone
