@@ -11,5 +11,7 @@ pub mod Opening
 pub mod Answers
 -- a run as a trace of its moves;
 pub mod Trace
--- the worker that goes with a line.
+-- the worker that goes with a line;
 pub mod Workers
+-- events without their workers.
+pub mod WithoutWorker
