@@ -57,8 +57,8 @@ def orders():
     for name, plan in PLANS.items():
         yield name + ".one-worker", name, one_worker(plan)
         yield name + ".all-lines", name, all_lines(plan, min(plan.lines, 32))
-    plan = PLANS["overtaking"]
-    yield "overtaking.overtakes", "overtaking", program_input(2, by_practice(plan, 2, [0, 0, 0, 1, 1, 1, 1]))
+    choices = by_practice(PLANS["overtaking"], 2, [0, 0, 0, 1, 1, 1, 1])
+    yield "overtaking.overtakes", "overtaking", program_input(2, choices)
 
 
 def files():

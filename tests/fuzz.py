@@ -21,6 +21,7 @@ import plan_file
 from chance import Chance
 from plan_file import Plan, Refused, encode
 from program import output
+from run import Run
 
 # A program that hangs differs, too.
 LONGEST_ANSWER = 120
@@ -75,12 +76,14 @@ def limit_plan(chance):
 
 def random_workers(chance):
     if chance.one_in(10):
-        return chance.pick([0, 33, 34, 40, 255])
+        return chance.pick([0, 0, 33, 33, 34, 255, chance.between(35, 254)])
     return chance.pick([1, 1, 2, 2, 3, 4, 7, 31, 32, chance.between(1, 32)])
 
 
 def random_choices(chance, plan, workers, most):
-    manner = chance.below(6)
+    if chance.one_in(25):
+        return []
+    manner = chance.below(8)
     if manner == 0 or not 1 <= workers <= 32:
         return makers.random_list(chance, plan, workers, chance.between(0, min(most, 2000)), past=4)
     if manner == 1:
@@ -88,7 +91,52 @@ def random_choices(chance, plan, workers, most):
         return choices + [(0, 0), (0, plan.lines), (workers, 0)] if chance.one_in(2) else choices
     if manner == 2:
         return [(chance.below(256), chance.below(256)) for _ in range(chance.between(0, 50))]
-    return makers.allowed_list(chance, plan, workers, most, strays=chance.pick([0, 2, 6, 20]))
+    if manner < 5:
+        return with_far_ones(chance, plan, workers, any_worker_list(chance, plan, workers, most))
+    choices = makers.allowed_list(chance, plan, workers, most, strays=chance.pick([0, 2, 6, 20]))
+    return with_far_ones(chance, plan, workers, choices) if chance.one_in(2) else choices
+
+
+def any_worker_list(chance, plan, workers, most):
+    """Lines that some worker may choose, or could if idle, often by another worker.
+
+    So a finish by another one and a start or stop by a busy one come often;
+    now and then a line that must wait is among them, and the last three choices
+    are any.
+    """
+    run = Run(plan, workers)
+    others = chance.between(2, 6)
+    finish_late = chance.one_in(2)
+    choices = []
+    while len(choices) < most and not run.ended:
+        lines = [line for line in range(plan.lines) if run.refusal(0, line) != 12]
+        if finish_late and chance.below(3):
+            lines = [line for line in lines if not run.running[line]] or lines
+        line = chance.below(plan.lines) if chance.one_in(8) else chance.pick(lines)
+        worker = run.practice_worker(line)
+        if chance.one_in(others):
+            busy = [by for by in run.worker_of if by is not None]
+            worker = chance.pick(busy + [chance.below(workers)])
+        choices.append((worker, line))
+        run.choose(worker, line)
+    return choices + [(chance.below(workers), chance.below(plan.lines)) for _ in range(3)]
+
+
+def with_far_ones(chance, plan, workers, choices):
+    """The list with some choices put in whose worker or line is past its limit, up to 255.
+
+    These are refused, so the rest goes on as it was.
+    """
+    choices = list(choices)
+    for _ in range(chance.between(1, 12)):
+        worker, line = chance.below(workers), chance.below(plan.lines)
+        manner = chance.below(3)
+        if manner != 0:
+            worker = chance.pick([workers, 32, 33, 128, 255, chance.between(workers, 255)])
+        if manner != 1:
+            line = chance.pick([plan.lines, 32, 33, 128, 255, chance.between(plan.lines, 255)])
+        choices.insert(chance.between(0, len(choices)), (worker, line))
+    return choices
 
 
 def random_case(chance):
@@ -108,9 +156,9 @@ def random_case(chance):
         return data, bytes(chance.below(34) for _ in range(chance.below(6)))
     workers = random_workers(chance)
     stdin = makers.program_input(workers, random_choices(chance, plan, workers, most))
-    if chance.one_in(8):
+    if chance.one_in(4):
         # A lone last byte.
-        stdin += bytes([chance.below(4)])
+        stdin += bytes([chance.pick([0, 1, 255, chance.below(256)])])
     return data, b"" if chance.one_in(100) else stdin
 
 
@@ -144,21 +192,28 @@ def show_difference(number, seed, data, stdin, expected, there, why):
             return
 
 
-def count_up(figures, expected):
-    """Adds what happened in one case; the output alone tells it."""
+def count_up(figures, stdin, expected):
+    """Adds what happened in one case; input and output tell it."""
     lines = expected.decode("ascii").split("\n")[:-1]
-    if lines[-1] not in ("E", "O"):
-        number = int(lines[-1].split()[1])
-        figures["plans" if number < 8 else "openings", number] += 1
-        if number == 8:
-            figures["accepted plans"] += 1
+    number = 0 if lines[-1] in ("E", "O") else int(lines[-1].split()[1])
+    if 0 < number < 8:
+        figures["plans", number] += 1
         return
     figures["accepted plans"] += 1
+    # 34 stands for all above 33.
+    figures["W", min(stdin[0], 34) if stdin else None] += 1
+    if number == 8:
+        figures["openings", number] += 1
+        return
     figures["choices"] += len(lines) - 1
     figures["ended runs"] += lines[-1] == "E"
-    for line in lines[:-1]:
+    figures["no choice"] += len(lines) == 1
+    figures["lone last bytes"] += len(stdin) % 2 == 0
+    for worker, line in zip(stdin[1::2], lines[:-1]):
         if line.startswith("R"):
             figures["choices", int(line.split()[1])] += 1
+            if line == "R 26":
+                figures["26 beyond W" if worker >= stdin[0] else "26 another"] += 1
         else:
             figures["accepted choices"] += 1
 
@@ -173,7 +228,10 @@ def summary(cases, figures):
         f" refused openings {by_number('openings', [8])};"
         f" choices {figures['choices']}; accepted choices {figures['accepted choices']};"
         f" refused choices {by_number('choices', [10, 11, 12, 13, 26])};"
-        f" ended runs {figures['ended runs']}"
+        f" ended runs {figures['ended runs']};"
+        f" 26 for W or more {figures['26 beyond W']}, for another worker {figures['26 another']};"
+        f" lone last bytes {figures['lone last bytes']}; no choice {figures['no choice']};"
+        f" W none:{figures['W', None]} {by_number('W', [0, 1, 32, 33])} above:{figures['W', 34]}"
     )
 
 
@@ -199,7 +257,7 @@ def main():
                 show_difference(cases, wanted.seed, data, stdin, expected, there, why)
                 print(summary(cases, figures))
                 return 1
-            count_up(figures, expected)
+            count_up(figures, stdin, expected)
     print(summary(cases, figures))
     return 0
 

@@ -253,7 +253,10 @@ def random_lines(chance, plan, many, past=0):
 
 
 def random_list(chance, plan, workers, many, past=0):
-    """Any lines, mostly by the worker that practice would name, else by any, now and then one beyond W."""
+    """Any lines, mostly by the worker that practice would name, else by any.
+
+    With `past`, that may be one beyond W.
+    """
     lines = random_lines(chance, plan, many, past)
     if not 1 <= workers <= 32:
         return [(chance.below(4), line) for line in lines]
@@ -281,7 +284,10 @@ def allowed_list(chance, plan, workers, most, strays=0):
         if strays and chance.one_in(strays):
             worker, line = chance.below(workers + 1), chance.below(plan.lines + 2)
         else:
-            lines = [line for line in range(plan.lines) if not run.refusal(run.practice_worker(line), line)]
+            lines = [
+                line for line in range(plan.lines)
+                if not run.refusal(run.practice_worker(line), line)
+            ]
             if lean:
                 liked = [line for line in lines if run.running[line] == (lean == 1)]
                 if liked and not chance.one_in(4):

@@ -37,7 +37,8 @@ class Run:
                     value = self.full[pipe]
                 self.counters[line * PIPES_EACH + pipe] = value
 
-        # For each line: the pipe where it waits or runs, what it carries, and the worker that runs it.
+        # For each line: the pipe where it waits or runs, what it carries, and
+        # the worker that runs it.
         self.at = [0] * self.lines
         self.running = [False] * self.lines
         self.carries = [None] * self.lines

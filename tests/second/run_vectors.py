@@ -49,7 +49,10 @@ def stored(entries):
 
 
 def made_input(workers, many, seed, modulus):
-    """Of each choice the line is drawn, and its worker is the line's number mod W; one time in 16 it is one that W has not."""
+    """Of each choice the line is drawn, and its worker is the line's number mod W.
+
+    One time in 16 it is W or more instead; for a line past any L it may be any.
+    """
     data = bytearray([workers])
     s = seed
     for _ in range(many):
@@ -222,20 +225,25 @@ def refusal_entries():
     # Nobody but line 0 may begin.
     entries.append(given_lines(Plan([True], 4, 4), 4, [3, 2, 1, 0, 3, 2, 1, 0]))
     # 26 for each worker past W, up to the highest byte, after 10 and before 11 and 12.
-    entries.append(given_run(plan, 2, [(w, 0) for w in (2, 3, 31, 32, 255)] + [(2, 3), (2, 1), (1, 0), (2, 0), (1, 0)]))
-    entries.append(given_run(CASES["c"].plan(), 1, [(1, 0), (0, 0), (1, 0), (0, 0), (1, 1), (0, 1)]))
-    # 26 for a finish by another worker, at pipe 0 and elsewhere; 12 and not 13 for a busy worker's start too early; 13 for a start and
-    # for a stop while the worker runs another line, though one is idle.
+    beyond = [(worker, 0) for worker in (2, 3, 31, 32, 255)]
+    entries.append(given_run(plan, 2, beyond + [(2, 3), (2, 1), (1, 0), (2, 0), (1, 0)]))
     entries.append(
-        given_run(Plan([True, False], 3, 3), 3, [(1, 0), (0, 0), (2, 0), (1, 1), (1, 0), (2, 0), (1, 0), (2, 1), (2, 0), (0, 1), (0, 1),
-                  (0, 1), (0, 2), (1, 2), (1, 0), (2, 0), (1, 2), (1, 1), (0, 1), (0, 2), (0, 2), (0, 0), (1, 0)])
+        given_run(CASES["c"].plan(), 1, [(1, 0), (0, 0), (1, 0), (0, 0), (1, 1), (0, 1)])
     )
-    entries.append(
-        given_run(Plan([True, True], 2, 1), 2, [(1, 0), (1, 0), (1, 0), (1, 1), (0, 1), (0, 0), (1, 0), (0, 0), (0, 1)])
-    )
+    # 26 for a finish by another worker, at pipe 0 and elsewhere; 12 and not 13
+    # for a busy worker's start too early; 13 for a start and for a stop while
+    # the worker runs another line, though one is idle.
+    choices = [
+        (1, 0), (0, 0), (2, 0), (1, 1), (1, 0), (2, 0), (1, 0), (2, 1), (2, 0), (0, 1), (0, 1),
+        (0, 1), (0, 2), (1, 2), (1, 0), (2, 0), (1, 2), (1, 1), (0, 1), (0, 2), (0, 2), (0, 0),
+        (1, 0),
+    ]
+    entries.append(given_run(Plan([True, False], 3, 3), 3, choices))
+    choices = [(1, 0), (1, 0), (1, 0), (1, 1), (0, 1), (0, 0), (1, 0), (0, 0), (0, 1)]
+    entries.append(given_run(Plan([True, True], 2, 1), 2, choices))
     # A lone last byte is ignored, whatever it is.
-    for data in (b"\x02\0", b"\x02\1\0\0", b"\x02\0\0\xff", b"\x02\1\0\1\0\1\0\1"):
-        entries.append(given(encode(plan), data))
+    for stdin in (b"\x02\0", b"\x02\1\0\0", b"\x02\0\0\xff", b"\x02\1\0\1\0\1\0\1"):
+        entries.append(given(data, stdin))
 
     # Refused plans, each number, with input that would be fine, absent, or 8.
     refused = [

@@ -14,9 +14,10 @@ from chance import Chance
 from makers import by_practice, one_worker_list, program_input, raw_file, raw_record
 from plan_file import Plan, Refused, encode
 from program import output
-from run import FINISHED, REFUSED, STARTED, STOPPED, Run
-from run_vectors import checksum
+from run import FINISHED, PIPES_EACH, REFUSED, STARTED, STOPPED, Run
+from run_vectors import checksum, made_input, refusal_entries
 from sheet import plain_sheet, stays_by_chains
+from tables import Tables
 
 
 def answer(data):
@@ -231,6 +232,226 @@ class Refusals(unittest.TestCase):
         self.assertEqual(run.counters, expected)
 
 
+class WorkersByNumber(unittest.TestCase):
+    """Request 2.14."""
+
+    def check(self, run, steps):
+        """Each step is a choice and its answer; a refused one changes nothing."""
+        for worker, line, expected in steps:
+            before = run.state(), list(run.line_of)
+            self.assertEqual(run.choose(worker, line), expected)
+            if expected[0] == REFUSED:
+                self.assertEqual((run.state(), run.line_of), before)
+
+    def two_wait_at_pipe_1(self, tokens):
+        """Lines 0 and 1 may start pipe 1, line 2 pipe 0; with 2 tokens it would stop there."""
+        choices = [(0, 0), (0, 0), (0, 1), (0, 1)]
+        return events(Plan([True, False], 3, tokens), 3, choices)[0]
+
+    def test_case_a(self):
+        self.assertEqual(
+            output(CASE_A_FILE, b"\x01" + 6 * b"\x00"),
+            b"S 0 0 0 0 0\n" b"F 0 0 0 0 0\n" b"X 0 0\n" b"E\n",
+        )
+
+    def test_worker_comes_before_line(self):
+        data = encode(Plan([True], 2, 1))
+        self.assertEqual(output(data, bytes([2, 1, 0])), b"S 0 0 0 0 1\nO\n")
+        self.assertEqual(output(data, bytes([2, 0, 1])), b"R 12\nO\n")
+
+    def test_lone_last_byte_is_ignored(self):
+        data = encode(Plan([True], 1, 1))
+        self.assertEqual(output(data, b"\x01"), b"O\n")
+        for choices, text in (
+            ([], b"O\n"),
+            ([(1, 0)], b"S 0 0 0 0 1\nO\n"),
+            ([(1, 0), (1, 0)], b"S 0 0 0 0 1\nF 0 0 0 0 1\nO\n"),
+            ([(1, 0), (1, 0), (0, 0)], b"S 0 0 0 0 1\nF 0 0 0 0 1\nX 0 0\nE\n"),
+        ):
+            for lone in (b"", b"\x00", b"\x01", b"\x02", b"\xff"):
+                self.assertEqual(output(data, program_input(2, choices) + lone), text)
+        # A lone byte is no choice of a refused opening or plan either.
+        self.assertEqual(output(data, b"\x00\x00"), b"R 8\n")
+        self.assertEqual(output(data, b"\x21\x00"), b"R 8\n")
+        self.assertEqual(output(b"", b"\x01\x00"), b"R 1\n")
+
+    def test_state_records_the_worker(self):
+        run = self.two_wait_at_pipe_1(3)
+        self.assertEqual(run.worker_of, [None, None, None])
+        for worker, line, recorded in (
+            (2, 0, [2, None, None]),
+            (0, 1, [2, 0, None]),
+            (1, 2, [2, 0, 1]),
+            (0, 1, [2, None, 1]),
+            (2, 0, [None, None, 1]),
+            (1, 2, [None, None, None]),
+        ):
+            self.assertNotEqual(run.choose(worker, line)[0], REFUSED)
+            self.assertEqual(run.worker_of, recorded)
+
+    def test_finish_is_by_that_worker(self):
+        for own in range(4):
+            others = [(by, 0, (REFUSED, 26)) for by in range(4) if by != own]
+            run = Run(Plan([True, False], 2, 2), 4)
+            self.check(run, [(own, 0, (STARTED, 0, 0, 0, 0, own))])
+            self.check(run, others + [(own, 0, (FINISHED, 0, 0, 0, 0, own))])
+            self.check(run, [(own, 0, (STARTED, 0, 1, 0, 0, own))])
+            # Now one of the others is busy.
+            busy = (own + 1) % 4
+            self.check(run, [(busy, 1, (STARTED, 1, 0, 1, 1, busy))])
+            self.check(run, others + [(own, 0, (FINISHED, 0, 1, 0, 0, own))])
+
+    def test_26_comes_after_10(self):
+        run = Run(Plan([True], 2, 1), 3)
+        for worker in (0, 2, 3, 32, 255):
+            for line in (2, 32, 255):
+                self.check(run, [(worker, line, (REFUSED, 10))])
+
+    def test_26_comes_before_11_and_12(self):
+        run = Run(Plan([True], 2, 1), 3)
+        beyond = [(by, line, (REFUSED, 26)) for by in (3, 4, 32, 255) for line in (0, 1)]
+        # Line 0 may start, line 1 waits; line 0 runs; line 1 may stop; the end.
+        self.check(run, beyond + [(2, 1, (REFUSED, 12))])
+        self.check(run, [(2, 0, (STARTED, 0, 0, 0, 0, 2))] + beyond)
+        self.check(run, [(2, 0, (FINISHED, 0, 0, 0, 0, 2))] + beyond)
+        self.check(run, [(1, 1, (STOPPED, 1, 1))] + beyond)
+        self.check(run, [(by, line, (REFUSED, 11)) for by in range(3) for line in (0, 1)])
+
+    def test_12_comes_before_13(self):
+        run = Run(Plan([True], 3, 3), 2)
+        self.check(run, [(1, 0, (STARTED, 0, 0, 0, 0, 1))])
+        # Busy or idle, a line with its counter above 0 gets 12.
+        self.check(run, [(by, line, (REFUSED, 12)) for by in (0, 1) for line in (1, 2)])
+
+    def test_13_is_the_named_workers_other_line(self):
+        run = self.two_wait_at_pipe_1(3)
+        self.check(run, [
+            (1, 0, (STARTED, 0, 1, 0, 0, 1)),
+            (1, 1, (REFUSED, 13)),
+            (1, 2, (REFUSED, 13)),
+            (2, 1, (STARTED, 1, 1, 1, 1, 2)),
+            (2, 2, (REFUSED, 13)),
+            (1, 2, (REFUSED, 13)),
+            (0, 2, (STARTED, 2, 0, 2, 2, 0)),
+        ])
+        # All W lines run, and each worker may finish its own.
+        self.assertEqual([run.choose(by, line)[0] for by, line in ((0, 2), (1, 0), (2, 1))],
+                         [FINISHED] * 3)
+
+    def test_a_stop_needs_an_idle_worker_and_keeps_it_so(self):
+        run = self.two_wait_at_pipe_1(2)
+        self.check(run, [
+            (1, 0, (STARTED, 0, 1, 0, 0, 1)),
+            (1, 2, (REFUSED, 13)),
+            (0, 2, (STOPPED, 2, 0)),
+        ])
+        self.assertEqual(run.worker_of, [1, None, None])
+        self.check(run, [(0, 1, (STARTED, 1, 1, 1, 1, 0))])
+
+    def test_a_finish_frees_its_worker(self):
+        for workers in (1, 3):
+            run = Run(Plan([True, True], 2, 2), workers)
+            last = workers - 1
+            self.check(run, [
+                (last, 0, (STARTED, 0, 0, 0, 0, last)),
+                (last, 0, (FINISHED, 0, 0, 0, 0, last)),
+                (last, 1, (STARTED, 1, 0, 1, 1, last)),
+                (last, 0, (REFUSED, 13)),
+                (last, 1, (FINISHED, 1, 0, 1, 1, last)),
+                (last, 0, (STARTED, 0, 1, 0, 0, last)),
+            ])
+
+    def test_lines_alone_answer_as_before(self):
+        # 13 exactly if W or more lines run, and all else the same.
+        chance = Chance(3003)
+        seen = set()
+        for _ in range(400):
+            plan = makers.random_plan(chance, pipes=3, lines=5, tokens=8)
+            workers = chance.pick([1, 2, 3, 4, 32])
+            run, before = Run(plan, workers), RunOfLines(plan, workers)
+            for line in makers.random_lines(chance, plan, 300, past=2):
+                event = run.choose(run.practice_worker(line), line)
+                self.assertEqual(without_worker(event), before.choose(line))
+                self.assertEqual(run.ended, before.ended())
+                seen.add(event[1] if event[0] == REFUSED else event[0])
+        self.assertEqual(seen, {STARTED, FINISHED, STOPPED, 10, 11, 12, 13})
+
+    def test_end_states_name_no_worker(self):
+        # The same lines, by the lowest idle worker and by the highest.
+        chance = Chance(3004)
+        for _ in range(60):
+            plan = makers.random_plan(chance, pipes=3, lines=4, tokens=8)
+            lines = [line for _, line in makers.allowed_list(chance, plan, 4, 1000)]
+            ends = []
+            for workers, pick in ((4, min), (4, max), (32, min), (32, max)):
+                run = Run(plan, workers)
+                for line in lines:
+                    own = run.worker_of[line]
+                    run.choose(pick(run.idle()) if own is None else own, line)
+                self.assertTrue(run.ended)
+                self.assertEqual(run.worker_of, [None] * plan.lines)
+                ends.append(run.state())
+            self.assertEqual(ends, ends[:1] * 4)
+
+
+def without_worker(event):
+    return event if event[0] == REFUSED else event[:-1]
+
+
+class RunOfLines:
+    """A run before 2.14: a choice names a line, and W says how many lines may run."""
+
+    def __init__(self, plan, limit):
+        self.plan, self.limit = plan, limit
+        self.tables = Tables(plan)
+        self.full = [2 if serial else 1 for serial in plan.pipes]
+        self.counters = [list(self.full) for _ in range(plan.lines)]
+        self.counters[0] = [1] * len(plan.pipes)
+        for counters in self.counters:
+            counters[0] = 1
+        self.counters[0][0] = 0
+        self.at = [0] * plan.lines
+        self.carried = {}
+        self.running = set()
+        self.stopped = False
+
+    def ended(self):
+        waits = all(counters[pipe] > 0 for counters, pipe in zip(self.counters, self.at))
+        return self.stopped and not self.running and waits
+
+    def choose(self, line):
+        if line >= self.plan.lines:
+            return (REFUSED, 10)
+        if self.ended():
+            return (REFUSED, 11)
+        pipe = self.at[line]
+        if line in self.running:
+            return self.finish(line, pipe)
+        if self.counters[line][pipe] > 0:
+            return (REFUSED, 12)
+        if len(self.running) >= self.limit:
+            return (REFUSED, 13)
+        self.counters[line][pipe] = self.full[pipe]
+        if pipe == 0:
+            self.carried[line] = self.tables.take()
+            if self.carried[line] is None:
+                self.stopped = True
+                return (STOPPED, line)
+        self.running.add(line)
+        return (STARTED, line, pipe, *self.carried[line])
+
+    def finish(self, line, pipe):
+        token, place = self.carried[line]
+        if pipe == 0:
+            self.tables.finish(token)
+        if self.plan.pipes[pipe]:
+            self.counters[(line + 1) % self.plan.lines][pipe] -= 1
+        self.at[line] = (pipe + 1) % len(self.plan.pipes)
+        self.counters[line][self.at[line]] -= 1
+        self.running.remove(line)
+        return (FINISHED, line, pipe, token, place)
+
+
 def chain_meets_trouble(plan, token, seen=()):
     """The criterion word by word: follow every chain until something comes."""
     if token >= plan.tokens or token in seen:
@@ -244,48 +465,71 @@ def chain_meets_trouble(plan, token, seen=()):
 class WholeRuns(unittest.TestCase):
     """Demand 3 on random small plans with random choices."""
 
+    def check_answers(self, run, at_work):
+        """What each choice would get now; the events told who runs which line."""
+        workers = range(run.workers)
+        busy = set(at_work.values())
+        idle = [by for by in workers if by not in busy]
+        some_allowed = False
+        for line in range(run.lines):
+            if run.ended:
+                expected = [11 for by in workers]
+            elif line in at_work:
+                expected = [0 if by == at_work[line] else 26 for by in workers]
+            elif run.counters[line * PIPES_EACH + run.at[line]] > 0:
+                expected = [12 for by in workers]
+            else:
+                expected = [13 if by in busy else 0 for by in workers]
+            self.assertEqual([run.refusal(by, line) for by in workers], expected)
+            self.assertEqual(run.refusal(run.workers, line), 26)
+            some_allowed |= 0 in expected
+            # Practice's worker is allowed exactly if one is.
+            practice = run.practice_worker(line)
+            self.assertEqual(practice, at_work.get(line, min(idle, default=0)))
+            self.assertEqual(expected[practice] == 0, 0 in expected)
+        self.assertEqual([run.refusal(by, run.lines) for by in (0, run.workers)], [10, 10])
+        self.assertEqual(some_allowed, not run.ended)
+
     def check_run(self, plan, workers, choices):
         sheet = plain_sheet(plan)
         m, p = len(sheet.order), len(plan.pipes)
         run = Run(plan, workers)
         accepted = 0
         started, finished = {}, {}
+        at_work = {}
         happened = []
         for now, (worker, line) in enumerate(choices):
             self.assertEqual(run.ended, accepted == 2 * m * p + 1)
-            allowed = [
-                (by, name)
-                for by in range(workers) for name in range(plan.lines) if run.refusal(by, name) == 0
-            ]
-            self.assertEqual(bool(allowed), not run.ended)
-            # The lines of the allowed choices are those that practice's workers may choose.
-            self.assertEqual(
-                sorted({name for _, name in allowed}),
-                [name for name in range(plan.lines) if run.refusal(run.practice_worker(name), name) == 0],
-            )
+            self.check_answers(run, at_work)
             before = run.state()
+            number = run.refusal(worker, line)
             event = run.choose(worker, line)
             happened.append(event)
-            if event[0] == REFUSED:
+            if number:
+                self.assertEqual(event, (REFUSED, number))
                 self.assertEqual(run.state(), before)
-                self.assertEqual(event[1] == 11, run.ended and line < plan.lines and worker < workers)
                 continue
             accepted += 1
             self.assertEqual(event[-1], worker)
+            if event[0] == STARTED:
+                at_work[line] = worker
+            elif event[0] == FINISHED:
+                self.assertEqual(at_work.pop(line), worker)
+            self.assertEqual(run.worker_of, [at_work.get(name) for name in range(plan.lines)])
             self.assertEqual(run.running_lines, sum(run.running))
             # No worker runs two lines.
-            at_work = [by for by in run.worker_of if by is not None]
-            self.assertEqual(len(at_work), run.running_lines)
-            self.assertEqual(len(set(at_work)), len(at_work))
+            self.assertEqual(run.running_lines, len(set(at_work.values())))
             if event[0] == STOPPED:
+                self.assertEqual(event[1], line)
                 continue
-            kind, on_line, pipe, token, place, _ = event
+            kind, on_line, pipe, token, place = without_worker(event)
             self.assertEqual(on_line, line)
             self.assertEqual((place, line), (sheet.place[token], sheet.line[token]))
             times = started if kind == STARTED else finished
             self.assertNotIn((token, pipe), times)
             times[token, pipe] = now
         self.assertEqual(run.ended, accepted == 2 * m * p + 1)
+        self.check_answers(run, at_work)
 
         order = order_of(happened)
         self.assertEqual(order, sheet.order[:len(order)])
@@ -305,6 +549,7 @@ class WholeRuns(unittest.TestCase):
             self.assertEqual(set(started), each)
             self.assertEqual(set(finished), each)
             self.assertEqual(run.tables.still_deferred(), sheet.stays)
+            self.assertEqual(at_work, {})
         return run
 
     def test_random_plans(self):
@@ -360,9 +605,18 @@ class WholeRuns(unittest.TestCase):
         self.assertEqual(stays_by_chains(stuck), list(range(4096)))
 
 
-class Checksum(unittest.TestCase):
-    def test_byte_by_byte(self):
-        data = output(encode(CASES["b"].plan(lines=3)), program_input(2, [(0, 0), (0, 0), (1, 1), (1, 9), (2, 1), (0, 1)] * 9))
+class StoredVectors(unittest.TestCase):
+    def test_every_number_comes(self):
+        entries = refusal_entries()
+        text = b"".join(output(plan, what) for plan, kind, what in entries if kind == 0)
+        for number in (1, 2, 3, 4, 5, 6, 7, 8, 10, 11, 12, 13, 26):
+            self.assertIn(b"R %d\n" % number, text)
+        made = [output(plan, made_input(*what)) for plan, kind, what in entries if kind == 1]
+        self.assertEqual([text.split(b"\n")[0] for text in made], [b"R 1", b"R 8", b"O", b"R 10"])
+
+    def test_checksum_byte_by_byte(self):
+        choices = [(0, 0), (0, 0), (1, 1), (1, 9), (2, 1), (0, 1)]
+        data = output(encode(CASES["b"].plan(lines=3)), program_input(2, choices * 9))
         for text in (data, b"", b"E\n", b"no newline"):
             h = 1
             for byte in text:
@@ -378,9 +632,6 @@ class TheProgram(unittest.TestCase):
             b"S 0 0 0 0 0\nF 0 0 0 0 0\nR 10\nS 0 1 0 0 0\nR 13\nF 0 1 0 0 0\nX 1 0\nR 11\nE\n",
         )
         self.assertEqual(output(data, b"\x01"), b"O\n")
-        # A lone last byte is ignored.
-        self.assertEqual(output(data, b"\x02\x01"), b"O\n")
-        self.assertEqual(output(data, b"\x02\x01\x00\x01"), b"S 0 0 0 0 1\nO\n")
         self.assertEqual(output(b"", b""), b"R 1\n")
 
 
