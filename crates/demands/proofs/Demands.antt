@@ -221,6 +221,7 @@ module _ (p : Plan) (valid : Valid p) where
           end-state = λ over. let e = r .end-state over in e ∙ ap (final _ workers _) (sym (ap (λ a. a .source) e));
           goes-on = r .goes-on;
           one-line-each = r .one-line-each;
+          line-alone = r .line-alone;
           never-spoiled = r .never-spoiled;
           answers-as-rules = same-answers p valid m workers manned cs;
           left-as-rules = same-machine p valid m workers manned cs;

@@ -11,7 +11,7 @@ use Rattle.rules.specs.RunState.{Machine}
 use Rattle.rules.specs.Choices.{Choice, Answer, Started, Finished, Stopped, Refused, opened, chooseBy, answers, follow, ended}
 use Rattle.rules.specs.RelatedSources.{withSource, mapMachine}
 use Rattle.rules.specs.PlainSheet.{Row, rows, sheet, plainSource}
-use Rattle.rules.specs.Workers.{OneLineEach}
+use Rattle.rules.specs.Workers.{choiceOf, chooseLine, OneLineEach}
 use Rattle.rules.specs.Chains.{Blocked}
 use Rattle.rules.specs.WholeRuns.{WorkersInRange, Carries, ordered, accepted, startsOf, finishesOf, final}
 use Rattle.rules.specs.WholeRuns.{events, end, withWorkers, oneWorker, Accepted, lastOf}
@@ -98,6 +98,9 @@ pub record Shows (p : Plan) (workers : ℕ) (lent : List ℕ) (choices : List Ch
   pub goes-on : over ≡ false → (c : Choice) × (c .worker < workers) × (c .line < p .lines) × Accepted (chooseBy memorySource machine c .answer)
   -- no worker runs two lines at a time: "A start needs the named worker idle" (02, 2.14)
   pub one-line-each : OneLineEach (machine .slots) (p .lines)
+  -- "Where 01 lists lines alone, practice's workers go with them": a line's choice by that worker answers and leaves what 01 says
+  -- of the line alone (2.14)
+  pub line-alone : (l : ℕ) → chooseBy memorySource machine (choiceOf machine l) ≡ chooseLine memorySource machine l
   -- "no run gets 14"
   pub never-spoiled : Every (λ a. a ≡ Refused 14 → ⊥) events
   -- demand 2: the answers are those of the rules, and so is the machine, but for the tables, which match

@@ -11,7 +11,11 @@ pub mod Opening
 pub mod Answers
 -- a run as a trace of its moves;
 pub mod Trace
+-- what a machine is like whose numbers are in range;
+pub mod SoundMachines
 -- the worker that goes with a line;
 pub mod Workers
--- events without their workers.
+-- a line listed alone, by that worker;
+pub mod LineAlone
+-- and events without their workers.
 pub mod WithoutWorker

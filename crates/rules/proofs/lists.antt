@@ -1,8 +1,12 @@
 -- Lists and arithmetic that several crates count with. Reading order:
 -- tests, by their two outcomes;
 pub mod Tests
+-- tests that hold, each of several;
+pub mod Holding
 -- a test of each number below a bound;
 pub mod EveryBelow
+-- sums, and how many numbers pass a test;
+pub mod Sums
 -- how often a number comes in a list;
 pub mod Counting
 -- what a list has, keeps and leaves out;

@@ -16,5 +16,7 @@ pub mod OneWorker
 pub mod LinesAlone
 -- no worker runs two lines;
 pub mod OneLineEach
+-- so lines listed alone answer as in document 01;
+pub mod LineAnswers
 -- the theorem: all of `WholeRun`.
 pub mod WholeRuns

@@ -11,7 +11,7 @@ use Rattle.rules.specs.Lists.{if, all, samePair, Every}
 use Rattle.rules.specs.Sources.{Source, Writes}
 use Rattle.rules.specs.RunState.{Pipeline, Machine, allIdle, full}
 use Rattle.rules.specs.Choices.{Choice, Answer, Started, Finished, Stopped, Refused, tabled, opened, chooseBy, answers, follow, ended}
-use Rattle.rules.specs.Workers.{OneLineEach}
+use Rattle.rules.specs.Workers.{choiceOf, chooseLine, OneLineEach}
 use Rattle.rules.specs.PlainSheet.{Row, rows}
 
 -- a plan within its ranges, whose first pipe is serial; what is no pipe of it is not serial
@@ -171,3 +171,6 @@ module _ {X : Type 0} (S : Source X) (plan : Pipeline) (workers : ℕ) (x : X) (
     pub goes-on : ended end ≡ false → (c : Choice) × (c .worker < workers) × (c .line < plan .lines) × Accepted (chooseBy S end c .answer)
     -- no worker runs two lines at a time: "A start needs the named worker idle" (2.14)
     pub one-line-each : OneLineEach (end .slots) (plan .lines)
+    -- "Where 01 lists lines alone, practice's workers go with them": a line's choice by that worker answers and leaves what 01 says
+    -- of the line alone (2.14)
+    pub line-alone : (l : ℕ) → chooseBy S end (choiceOf end l) ≡ chooseLine S end l

@@ -10,10 +10,10 @@ use lib.ListN.{length, getD}
 use Rattle.rules.specs.Lists.{if, every}
 use Rattle.rules.specs.Ranges.{serialSound}
 use Rattle.rules.proofs.lists.EveryBelow.{every-fails}
+use Rattle.rules.proofs.lists.Holding.{every-at}
 use Rattle.rules.proofs.lists.ListTables.{getD-table, length-table}
 use Rattle.rules.proofs.lists.Tests.{by-test, lower, upper, below}
 use Rattle.ranges.specs.RangeParts.{flagSound, pipeRow, flagRow, rowWithin}
-use Rattle.state.proofs.in_range.Holding.{every-at}
 use Rattle.ranges.proofs.in_range.Rows.{every-same, swap}
 
 -- a row's size, and what it holds

@@ -11,6 +11,7 @@ use Rattle.rules.specs.Ranges.{sound, numbersSound, serialSound, slotSound, cou
 use Rattle.rules.specs.RunState.{Machine, slotAt}
 use Rattle.vocabulary.specs.declared.Slots.{Slots}
 use Rattle.rules.specs.Choices.{atWork}
+use Rattle.rules.proofs.lists.Holding.{first-holds, rest-hold}
 use Rattle.rules.proofs.lists.Tests.{if-same, if-eta}
 use Rattle.tables.specs.State as tables
 use Rattle.tables.specs.Calls.{memorySource}
@@ -19,7 +20,6 @@ use Rattle.ranges.specs.declared.slots.Found.{Found}
 use Rattle.state.specs.Machines.{machineOf, whole}
 use Rattle.ranges.specs.RangeParts.{figuresSound, foundOf}
 use Rattle.ranges.specs.Surveys.{restSound, near, spoiled, surveyOf}
-use Rattle.state.proofs.in_range.Holding.{first-holds, rest-hold}
 use Rattle.ranges.proofs.in_range.FlagLaws.{flags-are}
 use Rattle.ranges.proofs.in_range.SlotLaws.{works-all}
 

@@ -15,9 +15,9 @@ use Rattle.vocabulary.specs.declared.Slots.{Slots}
 use Rattle.rules.specs.RunState.{slotAt}
 use Rattle.rules.specs.Choices.{runBy, atWork}
 use Rattle.rules.specs.Ranges.{isIdle, isLoaded, workerSound, slotSound}
+use Rattle.rules.proofs.lists.Holding.{first-holds, rest-hold}
 use Rattle.rules.proofs.lists.Tests.{by-test, same, other, sameAs, lower, upper, below, if-same, pos-eqb}
 use Rattle.ranges.specs.RangeParts.{larger, foundOf}
-use Rattle.state.proofs.in_range.Holding.{first-holds, rest-hold}
 use Rattle.ranges.proofs.in_range.Highest.{larger-ltb, larger-none}
 
 module _ (slot : Slot) where

@@ -4,15 +4,24 @@ use mathlib.Core.Bool.{true, false}
 use Prim.Native.Nat.{ℕ, zero, suc, _+_, _≤_, _<_}
 use native.Mathlib.Omega.{arith}
 use lib.Dec.{ltb, eqb}
-use borrow.Author.Tests.{eqb-true, ltb-true, lt-ltb}
+use borrow.Author.Tests.{eqb-true, ltb-true, lt-ltb, eq-eqb}
 use Rattle.vocabulary.specs.declared.Slots.{Slots}
-use Rattle.rules.specs.RunState.{Machine, slotOf, counterOf}
+use Rattle.rules.specs.RunState.{Machine, slotAt, slotOf, counterOf}
 use Rattle.rules.specs.Sources.{Source, Taken, Spoiled, Nothing, Took}
 use Rattle.rules.specs.Ranges.{sound}
-use Rattle.rules.specs.Choices.{atWork, ended, startFirst, startLater, start, move, choose}
+use Rattle.rules.specs.Choices.{runBy, atWork, ended, startFirst, startLater, start, move, choose}
 use Rattle.rules.specs.Workers.{firstIdle, workerFor, withoutWorker}
 use Rattle.rules.specs.WholeRuns.{Accepted}
-use Rattle.rules.proofs.lists.Tests.{by-test, same, other, sameAs, holds, fails, see, never}
+use Rattle.rules.proofs.lists.Tests.{by-test, same, other, sameAs, holds, fails, see, never, if-same}
+
+-- a worker that runs a line is at work
+pub at-work : (s : Slots) (w n j : ℕ) → j < n → slotAt s j .running ≡ true → slotAt s j .worker .0 ≡ w → atWork s w n ≡ true
+unfolding atWork
+at-work s w zero j h r e = absurd (omega arith)
+at-work s w (suc n) j h r e = elim (sameAs j n) [
+  | same q t ↦ rw (ap (λ i. slotAt s i .running) (sym q) ∙ r, eq-eqb (slotAt s n .worker .0) w (ap (λ i. slotAt s i .worker .0) (sym q) ∙ e))
+  | other q t ↦ rw (at-work s w n j (omega arith) r e) (if-same (runBy w (slotAt s n)) true)
+]
 
 -- the idle worker with the smallest number, of so many from w on
 pub record FirstIdle (s : Slots) (lines w left v : ℕ) : Type 0 where

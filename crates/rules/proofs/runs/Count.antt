@@ -2,7 +2,7 @@
 use mathlib.Core.Path.{_≡_, refl, sym, ap, _∙_}
 use mathlib.Core.Bool.{true, false}
 use mathlib.Core.List.{List}
-use Prim.Native.Nat.{ℕ, zero, suc, _+_, _-_, _*_, _≤_, _<_}
+use Prim.Native.Nat.{ℕ, suc, _+_, _-_, _*_, _≤_, _<_}
 use native.Mathlib.Nat.{mul-suc, mul-le-mul-left}
 use native.Mathlib.Omega.{arith}
 use lib.Dec.{eqb}
@@ -13,6 +13,7 @@ use Rattle.rules.specs.RunState.{Pipeline}
 use Rattle.rules.specs.Sources.{Source}
 use Rattle.rules.specs.Choices.{Answer}
 use Rattle.rules.specs.WholeRuns.{PipelineInRange, accepted}
+use Rattle.rules.proofs.lists.Sums.{total, total-change, total-zero, total-from}
 use Rattle.rules.proofs.lists.Tests.{same, other, sameAs, holds, fails, see, never}
 use Rattle.rules.proofs.standing.Standing.{Standing, Good, begin, finish, put, put-same, put-other, same-place}
 use Rattle.rules.proofs.standing.Begin.{begin-busy, begin-busy-else}
@@ -21,36 +22,6 @@ use Rattle.rules.proofs.invariant.Invariant.{Allowed, State, free, take
 use Rattle.rules.proofs.choices.Moves.{Ready, Starts, Finishes}
 use Rattle.rules.proofs.choices.Trace.{Trace, rests, refused, stopped, entered, started, finished}
 use Rattle.rules.proofs.runs.Ending.{Over}
-
--- the sum of a function's values below n
-unfoldable pub total : (ℕ → ℕ) → ℕ → ℕ
-total f zero = 0
-total f (suc n) = f n + total f n
-
-total-same : (f h : ℕ → ℕ) (n : ℕ) → ((j : ℕ) → j < n → h j ≡ f j) → total h n ≡ total f n
-unfolding total
-total-same f h zero e = refl
-total-same f h (suc n) e = omega (arith, e n (omega arith), total-same f h n (λ j k. e j (omega arith)))
-
--- a change at one line changes the sum as much
-total-change : (f h : ℕ → ℕ) (l n : ℕ) → l < n → ((j : ℕ) → j < n → (j ≡ l → ⊥) → h j ≡ f j) → total h n + f l ≡ total f n + h l
-unfolding total
-total-change f h l zero k e = absurd (omega arith)
-total-change f h l (suc n) k e = elim (sameAs n l) [
-  | same q t ↦ rw (← q) (omega (arith, total-same f h n (λ j i. e j (omega arith) (omega arith))))
-  | other d t ↦ omega (arith, e n (omega arith) d, total-change f h l n (omega arith) (λ j i. e j (omega arith)))
-]
-
--- a sum of zeros
-pub total-zero : (f : ℕ → ℕ) (n : ℕ) → ((j : ℕ) → j < n → f j ≡ 0) → total f n ≡ 0
-unfolding total
-total-zero f zero e = refl
-total-zero f (suc n) e = omega (arith, e n (omega arith), total-zero f n (λ j k. e j (omega arith)))
-
-total-from : (f : ℕ → ℕ) (l n : ℕ) → l < n → f l ≤ total f n
-unfolding total
-total-from f l zero h = absurd (omega arith)
-total-from f l (suc n) h = elim (sameAs l n) [ same e t ↦ rw e (omega arith) | other d t ↦ omega (arith, total-from f l n (omega arith)) ]
 
 module _ (plan : Pipeline) where
   -- the accepted choices that a line's token still needs; the line that stopped is counted as if it held one

@@ -2,24 +2,25 @@
 use mathlib.Core.Path.{_≡_, sym, ap, subst, _∙_}
 use mathlib.Core.Bool.{true, false}
 use mathlib.Core.List.{List, [], _∷_}
-use Prim.Native.Nat.{ℕ, zero, suc, _+_, _*_, _≤_, _<_}
+use Prim.Native.Nat.{ℕ, suc, _+_, _*_, _≤_, _<_}
 use native.Mathlib.Omega.{arith}
 use lib.Dec.{ltb, eqb}
 use lib.ListN.{getD}
-use borrow.Author.Tests.{ltb-true, eq-eqb}
+use borrow.Author.Tests.{ltb-true}
 use Rattle.vocabulary.specs.declared.Slot.{Slot}
 use Rattle.vocabulary.specs.declared.Slots.{Slots}
-use Rattle.rules.specs.RunState.{Pipeline, Machine, idle, runs, slotAt, putSlot, slotOf, counterOf, isSerial}
+use Rattle.rules.specs.RunState.{Pipeline, Machine, runs, allIdle, slotAt, putSlot, slotOf, counterOf, isSerial}
 use Rattle.rules.specs.Sources.{Source, Taken, Spoiled, Nothing, Took, Released, Broken, Passed}
 use Rattle.rules.specs.Ranges.{sound}
-use Rattle.rules.specs.Choices.{Choice, runBy, atWork, moved, next, fall, ended, opened, follow}
+use Rattle.rules.specs.Choices.{Choice, atWork, moved, next, fall, ended, opened, follow}
 use Rattle.rules.specs.Choices.{startFirst, startLater, start, settle, finishWith, finishFirst, finish, move, choose}
 use Rattle.rules.specs.Workers.{OneLineEach}
 use Rattle.rules.specs.WholeRuns.{PipelineInRange, WorkersInRange, Sheet, end}
-use Rattle.rules.proofs.lists.Tests.{by-test, same, other, sameAs, holds, never, if-same}
+use Rattle.rules.proofs.lists.Tests.{by-test, same, other, sameAs, never}
 use Rattle.rules.proofs.lists.SlotRows.{Sized, put-same, put-other, each-idle}
 use Rattle.rules.proofs.standing.Standing.{Standing}
 use Rattle.rules.proofs.invariant.Invariant.{Allowed, State, whole, Inv}
+use Rattle.rules.proofs.choices.Workers.{at-work}
 use Rattle.rules.proofs.choices.Opening.{at-opening, opening, opening-inv}
 use Rattle.rules.proofs.runs.LinesAlone.{Stands, stands}
 
@@ -82,15 +83,6 @@ module _ {X : Type 0} (S : Source X) (m : Machine X) (w l : ℕ) (P : Slots → 
       (λ i. rw i held)))
       (λ s. rw s held)
 
--- a worker that runs a line is at work
-at-work : (s : Slots) (w n j : ℕ) → j < n → slotAt s j .running ≡ true → slotAt s j .worker .0 ≡ w → atWork s w n ≡ true
-unfolding atWork
-at-work s w zero j h r e = absurd (omega arith)
-at-work s w (suc n) j h r e = elim (sameAs j n) [
-  | same q t ↦ rw (ap (λ i. slotAt s i .running) (sym q) ∙ r, eq-eqb (slotAt s n .worker .0) w (ap (λ i. slotAt s i .worker .0) (sym q) ∙ e))
-  | other q t ↦ rw (at-work s w n j (omega arith) r e) (if-same (runBy w (slotAt s n)) true)
-]
-
 -- the slots, with that of one line put anew
 module _ (s : Slots) (size : Sized s) (n : ℕ) (most : n ≤ 32) (each : OneLineEach s n) (l : ℕ) (h : l < n) (v : Slot) where
   here : slotAt (putSlot s l v) l ≡ v
@@ -130,28 +122,30 @@ moved-rests : (pipes : ℕ) (s : Slot) → moved pipes s .running ≡ false
 moved-rests pipes s = by-test (eqb (suc (s .pipe .0)) pipes) (λ e. rw e) (λ e. rw e)
 
 module _ {X : Type 0} {S : Source X} {plan : Pipeline} {workers : ℕ} {order : List ℕ} {z : X} (ok : Allowed plan workers order) where
-  -- one choice, and then the others
-  module _ (c : Choice) (cs : List Choice)
-      (go : (st : State X) (g : Standing) → Inv S plan workers order z st g → OneLineEach (st .slots) (plan .lines) →
-      OneLineEach (follow S (whole plan workers st) cs .slots) (plan .lines))
-      (st : State X) (g : Standing) (inv : Inv S plan workers order z st g) (each : OneLineEach (st .slots) (plan .lines)) where
-    after : OneLineEach (choose S (whole plan workers st) (c .worker) (c .line) .machine .slots) (plan .lines)
-    after = choose-slots S (whole plan workers st) (c .worker) (c .line) (λ s. OneLineEach s (plan .lines)) each
-        (λ h s. put-resting (st .slots) (inv .slotted .size) (plan .lines) (ok .ranged .lines-most) each (c .line) h _ (moved-rests (plan .pipes) s))
-        (λ h o p t k. put-running (st .slots) (inv .slotted .size) (plan .lines) (ok .ranged .lines-most) each (c .line) h _ o)
+  -- a choice keeps it
+  module _ (st : State X) (g : Standing) (inv : Inv S plan workers order z st g) (each : OneLineEach (st .slots) (plan .lines)) (w l : ℕ) where
+    after : OneLineEach (choose S (whole plan workers st) w l .machine .slots) (plan .lines)
+    after = choose-slots S (whole plan workers st) w l (λ s. OneLineEach s (plan .lines)) each
+        (λ h s. put-resting (st .slots) (inv .slotted .size) (plan .lines) (ok .ranged .lines-most) each l h _ (moved-rests (plan .pipes) s))
+        (λ h o p t k. put-running (st .slots) (inv .slotted .size) (plan .lines) (ok .ranged .lines-most) each l h _ o)
 
-    and-on : OneLineEach (follow S (whole plan workers st) (c ∷ cs) .slots) (plan .lines)
-    unfolding follow
-    and-on =
-        let r : Stands S plan workers order z (choose S (whole plan workers st) (c .worker) (c .line) .machine) = stands ok st g inv (c .worker) (c .line) in
-        subst (λ (m : Machine X). OneLineEach (follow S m cs .slots) (plan .lines)) (sym (r .is))
-        (go (r .state) (r .standing) (r .kept) (subst (λ (m : Machine X). OneLineEach (m .slots) (plan .lines)) (r .is) after))
+    -- so what holds of every machine that has the invariant and this, holds of what a choice leaves
+    pub left-each : (P : Machine X → Type 0) → ((st : State X) (g : Standing) → Inv S plan workers order z st g → OneLineEach (st .slots) (plan .lines) →
+        P (whole plan workers st)) → P (choose S (whole plan workers st) w l .machine)
+    left-each P go =
+        let r : Stands S plan workers order z (choose S (whole plan workers st) w l .machine) = stands ok st g inv w l in
+        subst P (sym (r .is)) (go (r .state) (r .standing) (r .kept) (subst (λ (m : Machine X). OneLineEach (m .slots) (plan .lines)) (r .is) after))
 
   followed : (cs : List Choice) (st : State X) (g : Standing) → Inv S plan workers order z st g → OneLineEach (st .slots) (plan .lines) →
       OneLineEach (follow S (whole plan workers st) cs .slots) (plan .lines)
   unfolding follow
   followed [] st g inv each = each
-  followed (c ∷ cs) st g inv each = and-on c cs (followed cs) st g inv each
+  followed (c ∷ cs) st g inv each =
+      left-each st g inv each (c .worker) (c .line) (λ m. OneLineEach (follow S m cs .slots) (plan .lines)) (followed cs)
+
+-- at opening no line runs
+pub opening-each : (n : ℕ) → OneLineEach allIdle n
+opening-each n i j a b r q e = absurd (never (sym r ∙ ap (λ (s : Slot). s .running) (each-idle i)))
 
 -- so after any list of choices no worker runs two lines
 pub one-line-each : {X : Type 0} {S : Source X} {plan : Pipeline} {workers : ℕ} {x : X} {order : List ℕ} {z : X} → PipelineInRange plan →
@@ -159,4 +153,4 @@ pub one-line-each : {X : Type 0} {S : Source X} {plan : Pipeline} {workers : ℕ
 unfolding opened
 one-line-each {plan = plan} {x = x} ranged manned sheet cs =
     followed (record { ranged = ranged; manned = manned; fits = sheet .fits; known = sheet .known }) cs (opening plan x) at-opening
-    (opening-inv ranged manned (sheet .writes)) (λ i j a b r q e. absurd (never (sym r ∙ ap (λ (s : Slot). s .running) (each-idle i))))
+    (opening-inv ranged manned (sheet .writes)) (opening-each (plan .lines))

@@ -1,5 +1,5 @@
 -- Demand 3, for the pipeline over any source of tokens.
-use mathlib.Core.Path.{_≡_, refl, sym, ap, _∙_}
+use mathlib.Core.Path.{_≡_, refl, sym, ap, subst, _∙_}
 use mathlib.Core.Bool.{true, false}
 use mathlib.Core.List.{List, _++_, append-nil}
 use Prim.Native.Nat.{ℕ, _+_, _*_, _%_, _≤_, _<_}
@@ -13,17 +13,20 @@ use Rattle.rules.specs.Sources.{Source}
 use Rattle.rules.specs.Choices.{Choice, Chosen, Answer, Started, Finished, Stopped, Refused, opened, choose, chooseBy, ended}
 use Rattle.rules.specs.WholeRuns.{PipelineInRange, WorkersInRange, Sheet, events, end, WholeRun}
 use Rattle.rules.specs.WholeRuns.{ordered, Accepted, accepted, lastOf, startsOf, finishesOf, final, oneWorker, Carries, withWorkers}
+use Rattle.rules.specs.Workers.{OneLineEach}
 use Rattle.rules.specs.PlainSheet.{Row, rows}
+use Rattle.rules.proofs.lists.Sums.{total, total-zero}
 use Rattle.rules.proofs.standing.Standing.{serialAt, toStart, toFinish, start-from, finish-from}
 use Rattle.rules.proofs.invariant.Invariant.{Allowed, whole}
 use Rattle.rules.proofs.choices.Opening.{at-opening, opening, opening-inv, start-opening, finish-opening}
 use Rattle.rules.proofs.choices.Moves.{Move, stops, enters, starts, finishes, Ready, next-answer}
 use Rattle.rules.proofs.choices.Steps.{refuses, moves, step}
+use Rattle.rules.proofs.choices.LineAlone.{line-alone}
 use Rattle.rules.proofs.choices.Trace.{Ran, ran}
 use Rattle.rules.proofs.runs.Order.{rowsFrom, order-part, never-spoiled, events-carry}
 use Rattle.rules.proofs.runs.Ending.{Over, over-ended, ended-over}
 use Rattle.rules.proofs.runs.Progress.{some-move, move-accepted}
-use Rattle.rules.proofs.runs.Count.{total, total-zero, left, left-first, takes, balance, over-count, count-over}
+use Rattle.rules.proofs.runs.Count.{left, left-first, takes, balance, over-count, count-over}
 use Rattle.rules.proofs.runs.Final.{is-final, place-from}
 use Rattle.rules.proofs.runs.Marks.{mark, mark-done, mark-due, mark-one, starts-marked, finishes-marked}
 use Rattle.rules.proofs.runs.OneWorker.{one-worker, length-one-worker}
@@ -150,6 +153,10 @@ module _ {X : Type 0} {S : Source X} {plan : Pipeline} (ranged : PipelineInRange
         let r = some-move allowed (run .kept) (ap ended (sym left-is) ∙ e) in
         (record { worker = r .0; line = r .1 }, r .2 .worker, r .2 .line, accepted-here (r .0) (r .1) (r .2 .makes))
 
+    -- no worker runs two of the lines there
+    each-here : OneLineEach (left-at .slots) (left-at .lines)
+    each-here = subst (λ n. OneLineEach (left-at .slots) n) (sym (ap (λ (m : Machine X). m .lines) left-is)) (one-line-each ranged manned sheet cs)
+
   -- every list of choices, of any numbers, makes a run as demand 3 says
   pub whole-run : (cs : List Choice) → WholeRun S plan workers x cs order z
   whole-run cs = record {
@@ -169,6 +176,7 @@ module _ {X : Type 0} {S : Source X} {plan : Pipeline} (ranged : PipelineInRange
     never-spoiled = unspoiled cs;
     goes-on = next-move cs;
     one-line-each = one-line-each ranged manned sheet cs;
+    line-alone = line-alone S (left-at cs) (each-here cs);
   }
 
 module _ {X : Type 0} {S : Source X} {plan : Pipeline} (ranged : PipelineInRange plan) {x : X} {order : List ℕ} {z : X} (sheet : Sheet S plan x order z) where

@@ -4,15 +4,15 @@ use mathlib.Core.Bool.{Bool, true, false, not}
 use mathlib.Core.List.{List}
 use Prim.Native.Nat.{ℕ, zero, suc, _+_, _*_, _<_, _≤_}
 use native.Mathlib.Omega.{arith}
-use borrow.Author.Tests.{ltb-true, lt-ltb, leb-true, eqb-true}
-use lib.Dec.{leb, ltb, eqb}
+use borrow.Author.Tests.{ltb-true, lt-ltb, eqb-true}
+use lib.Dec.{ltb, eqb}
 use lib.ListN.{getD}
-use Rattle.rules.specs.Lists.{if, every, within}
+use Rattle.rules.specs.Lists.{if, every}
 use Rattle.vocabulary.specs.declared.Slot.{Slot}
 use Rattle.vocabulary.specs.declared.Slots.{Slots}
 use Rattle.rules.specs.RunState.{slotAt}
 use Rattle.rules.specs.Choices.{movable, ended}
-use Rattle.rules.specs.Ranges.{isIdle, isLoaded, workerSound, slotSound, serialSound, numbersSound, sound}
+use Rattle.rules.specs.Ranges.{isIdle, isLoaded, workerSound, slotSound, sound}
 use Rattle.tables.specs.Calls.{memorySource}
 use Rattle.state.specs.declared.State.{State}
 use Rattle.state.specs.declared.Figures.{Figures}
@@ -20,21 +20,13 @@ use Rattle.state.specs.Machines.{slotsOf, machineOf}
 use Rattle.state.specs.Ending.{isStill, overOf, endedOf}
 use Rattle.state.specs.Machines.{whole, Ready}
 use Rattle.rules.proofs.lists.Tests.{by-test}
-use Rattle.state.proofs.in_range.Holding.{first-holds, rest-hold, every-at}
+use Rattle.rules.proofs.lists.Holding.{first-holds, rest-hold}
+use Rattle.rules.proofs.choices.SoundMachines.{slot-ok, pipes-some}
+use Rattle.rules.proofs.choices.SoundMachines.{pipes-most as most-pipes, lines-most as most-lines}
 
 -- a line's slot
 abbrev slotIn : State → ℕ → Slot
 slotIn s l = slotAt (slotsOf s) l
-
--- a number within a range
-module _ (low high n : ℕ) (ok : within low high n ≡ true) where
-  within-least : low ≤ n
-  unfolding within
-  within-least = leb-true low n (first-holds (leb low n) _ ok)
-
-  within-most : n ≤ high
-  unfolding within
-  within-most = leb-true n high (first-holds (leb n high) _ (rest-hold (leb low n) _ ok))
 
 module _ (slot : Slot) where
   -- an idle slot is at pipe 0
@@ -49,41 +41,22 @@ module _ (slot : Slot) where
       ltb-true (slot .pipe .0) pipes (first-holds (ltb (slot .pipe .0) pipes) _ (rest-hold (if (slot .running) true (ltb 0 (slot .pipe .0))) _ e))
 
 module _ (s : State) (mem : List ℕ) (ok : sound memorySource (machineOf s mem) ≡ true) where
-  numbers-ok : numbersSound (machineOf s mem) ≡ true
-  unfolding sound
-  numbers-ok = first-holds (numbersSound (machineOf s mem)) _ ok
-
-  slots-ok : every 32 (slotSound (s .pipes) (s .lines) (s .tables .tokens) (s .workers) (slotsOf s)) ≡ true
-  unfolding sound machineOf
-  slots-ok =
-      first-holds (every 32 (slotSound (s .pipes) (s .lines) (s .tables .tokens) (s .workers) (slotsOf s))) _
-      (rest-hold (every 16 (serialSound (s .pipes) (s .serial))) _ (rest-hold (numbersSound (machineOf s mem)) _ ok))
-
-  pipes-ok : within 1 16 (s .pipes) ≡ true
-  unfolding numbersSound machineOf
-  pipes-ok = first-holds (within 1 16 (s .pipes)) _ numbers-ok
-
-  lines-ok : within 1 32 (s .lines) ≡ true
-  unfolding numbersSound machineOf
-  lines-ok = first-holds (within 1 32 (s .lines)) _ (rest-hold (within 1 16 (s .pipes)) _ numbers-ok)
-
-  pipes-some : 1 ≤ s .pipes
-  pipes-some = within-least 1 16 (s .pipes) pipes-ok
+  pub lines-most : s .lines ≤ 32
+  unfolding machineOf
+  lines-most = most-lines memorySource (machineOf s mem) ok
 
   pipes-most : s .pipes ≤ 16
-  pipes-most = within-most 1 16 (s .pipes) pipes-ok
-
-  pub lines-most : s .lines ≤ 32
-  lines-most = within-most 1 32 (s .lines) lines-ok
+  unfolding machineOf
+  pipes-most = most-pipes memorySource (machineOf s mem) ok
 
   -- each line is at a pipe of the plan
   pipe-less : (l : ℕ) → l < 32 → slotIn s l .pipe .0 < s .pipes
-  unfolding slotSound
+  unfolding slotSound machineOf
   pipe-less l h =
       let slot : Slot = slotIn s l in
-      let e : slotSound (s .pipes) (s .lines) (s .tables .tokens) (s .workers) (slotsOf s) l ≡ true = every-at 32 l _ h slots-ok in
+      let e : slotSound (s .pipes) (s .lines) (s .tables .tokens) (s .workers) (slotsOf s) l ≡ true = slot-ok memorySource (machineOf s mem) ok l h in
       by-test (isIdle slot)
-      (λ i. let z : slot .pipe .0 ≡ 0 = idle-pipe slot i in omega (arith, pipes-some))
+      (λ i. let z : slot .pipe .0 ≡ 0 = idle-pipe slot i in omega (arith, pipes-some memorySource (machineOf s mem) ok))
       (λ i. loaded-pipe slot (s .pipes) (s .tables .tokens)
       (first-holds (isLoaded (s .pipes) (s .tables .tokens) slot) _
       (rest-hold (ltb l (s .lines)) _ (rw i at (rest-hold (workerSound (s .workers) slot) _ e)))))
