@@ -1,4 +1,4 @@
--- The rules of document 01 as definitions. Reading order: what they are written with;
+-- The rules of documents 01 and 02 as definitions. Reading order: what they are written with;
 pub mod Lists
 -- "Taking tokens";
 pub mod TakingTokens
@@ -7,8 +7,9 @@ pub mod Sources
 pub mod RunState
 pub mod Ranges
 pub mod Choices
-pub mod Workers
 pub mod Answers
+-- the worker that goes with a line that is listed alone (2.14);
+pub mod Workers
 -- "The plain sheet and whole runs";
 pub mod PlainSheet
 pub mod Chains

@@ -1,4 +1,4 @@
--- `state::ranges::look_over` meets its contract.
+-- `ranges::look_over` meets its contract.
 use borrow.Author.Tests.{not-true, not-false}
 use borrow.Author.Needs.{needs}
 use mathlib.Core.Path.{_∙_}

@@ -1,4 +1,4 @@
--- `state::ranges::near` meets its contract.
+-- `ranges::near` meets its contract.
 use native.Mathlib.Omega.{arith}
 use borrow.Author.Tests.{lt-ltb, le-ltb}
 use Rattle.ranges.specs.Surveys.{near}

@@ -1,4 +1,4 @@
--- `state::ranges::numbers_sound` meets its contract.
+-- `ranges::numbers_sound` meets its contract.
 use Rattle.rules.specs.Lists.{within}
 use Rattle.rules.proofs.lists.Tests.{tests, if-eta}
 use Rattle.ranges.specs.RangeParts.{figuresSound}

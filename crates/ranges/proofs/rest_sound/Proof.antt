@@ -1,4 +1,4 @@
--- `state::ranges::rest_sound` meets its contract.
+-- `ranges::rest_sound` meets its contract.
 use borrow.Author.Tests.{not-true, not-false}
 use borrow.Author.Needs.{needs}
 use mathlib.Core.Path.{_≡_, sym, _∙_}

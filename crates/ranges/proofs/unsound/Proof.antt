@@ -1,4 +1,4 @@
--- `state::ranges::unsound` meets its contract.
+-- `ranges::unsound` meets its contract.
 use mathlib.Core.Path.{refl}
 use Rattle.ranges.specs.Surveys.{spoiled}
 use Rattle.ranges.proofs.unsound.Statement.{statement}

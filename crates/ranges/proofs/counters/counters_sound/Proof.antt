@@ -1,4 +1,4 @@
--- `state::counters::counters_sound` meets its contract.
+-- `ranges::counters::counters_sound` meets its contract.
 use borrow.Author.Tests.{not-true, not-false}
 use borrow.Author.Needs.{needs}
 use mathlib.Core.Path.{sym, _∙_}

@@ -1,4 +1,4 @@
--- `state::counters::highest_row` meets its contract. The invariant: the row has the highest counters of the lines before `l`.
+-- `ranges::counters::highest_row` meets its contract. The invariant: the row has the highest counters of the lines before `l`.
 use mathlib.Core.Path.{_≡_, ap, _∙_}
 use Prim.Native.Nat.{_-_, _≤_}
 use native.Mathlib.Omega.{arith}

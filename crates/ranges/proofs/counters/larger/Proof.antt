@@ -1,4 +1,4 @@
--- `state::counters::larger` meets its contract.
+-- `ranges::counters::larger` meets its contract.
 use borrow.Author.Tests.{lt-ltb, le-ltb}
 use Rattle.ranges.specs.RangeParts.{larger}
 use Rattle.ranges.proofs.counters.larger.Statement.{statement}

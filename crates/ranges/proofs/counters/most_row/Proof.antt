@@ -1,4 +1,4 @@
--- `state::counters::most_row` meets its contract. The invariant: the row is filled before `p`.
+-- `ranges::counters::most_row` meets its contract. The invariant: the row is filled before `p`.
 use mathlib.Core.Path.{_≡_, refl, sym, _∙_}
 use Prim.Native.Nat.{_-_, _≤_, _<_}
 use native.Mathlib.Omega.{arith}

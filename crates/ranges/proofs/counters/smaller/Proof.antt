@@ -1,4 +1,4 @@
--- `state::counters::smaller` meets its contract.
+-- `ranges::counters::smaller` meets its contract.
 use borrow.Author.Tests.{lt-ltb, le-ltb}
 use Rattle.ranges.specs.RangeParts.{smaller}
 use Rattle.ranges.proofs.counters.smaller.Statement.{statement}

@@ -1,4 +1,4 @@
--- `state::flags::flags_sound` meets its contract.
+-- `ranges::flags::flags_sound` meets its contract.
 use borrow.Author.Tests.{not-true, not-false}
 use borrow.Author.Needs.{needs}
 use Rattle.ranges.proofs.in_range.FlagLaws as laws

@@ -1,4 +1,4 @@
--- `state::joint::both` meets its contract.
+-- `ranges::joint::both` meets its contract.
 use mathlib.Core.Path.{_≡_, refl}
 use mathlib.Core.Bool.{Bool, true, false, _&&_}
 use Rattle.rules.specs.Lists.{if}

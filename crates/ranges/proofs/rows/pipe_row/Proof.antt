@@ -1,4 +1,4 @@
--- `state::rows::pipe_row` meets its contract. The invariant: the row is filled before `p`.
+-- `ranges::rows::pipe_row` meets its contract. The invariant: the row is filled before `p`.
 use mathlib.Core.Path.{_≡_, refl}
 use Prim.Native.Nat.{_-_, _≤_}
 use native.Mathlib.Omega.{arith}

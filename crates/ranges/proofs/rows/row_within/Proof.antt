@@ -1,4 +1,4 @@
--- `state::rows::row_within` meets its contract. The invariant: `ok` says whether all numbers before `p` are within.
+-- `ranges::rows::row_within` meets its contract. The invariant: `ok` says whether all numbers before `p` are within.
 use mathlib.Core.Path.{_≡_, refl, sym, _∙_}
 use Prim.Native.Nat.{_-_, _≤_}
 use native.Mathlib.Omega.{arith}

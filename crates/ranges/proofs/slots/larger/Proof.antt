@@ -1,4 +1,4 @@
--- `state::slots::larger` meets its contract.
+-- `ranges::slots::larger` meets its contract.
 use borrow.Author.Tests.{lt-ltb, le-ltb}
 use Rattle.ranges.specs.RangeParts.{larger}
 use Rattle.ranges.proofs.slots.larger.Statement.{statement}

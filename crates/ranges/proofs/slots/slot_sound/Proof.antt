@@ -1,4 +1,4 @@
--- `state::slots::slot_sound` meets its contract.
+-- `ranges::slots::slot_sound` meets its contract.
 use mathlib.Core.Path.{_∙_}
 use borrow.Author.Needs.{needs}
 use Rattle.ranges.proofs.in_range.SlotLaws.{worker-is}
