@@ -245,8 +245,8 @@ fn random_plan(chance: &mut Chance) -> Plan {
     }
 }
 
-/// Allowed choices with any others in between, of lines up to 40 and any workers. Some lists stop before the end of
-/// the run and some go on after it.
+/// Allowed choices with any others in between, of lines up to 40 and workers up to W. Some lists stop
+/// before the end of the run and some go on after it.
 fn random_choices(chance: &mut Chance, plan: &Plan, file: &[u8], workers: u16) -> Vec<Choice> {
     let strays = chance.pick(&[1, 2, 4, 16]);
     let whole = 2 * usize::from(plan.tokens) * plan.pipes.len() + 1;

@@ -153,7 +153,11 @@ impl Times {
 }
 
 /// Makes a whole run of each list once untimed, then as often as fills the timed part.
-fn time(case: &Case, times: &mut Times, mut whole_run: impl FnMut(&[u8], u16, &[plain::Choice]) -> u64) {
+fn time(
+    case: &Case,
+    times: &mut Times,
+    mut whole_run: impl FnMut(&[u8], u16, &[plain::Choice]) -> u64,
+) {
     let mut all_lists = || {
         let start = Instant::now();
         for choices in &case.lists {

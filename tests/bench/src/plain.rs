@@ -1,7 +1,8 @@
 //! A stepper of the same rules in ordinary Rust, nothing of it proved, that the engine is measured
 //! against.
 //!
-//! It trusts its plan file and keeps its state to itself, so that it refuses with 10 to 13 and 26 only.
+//! It trusts its plan file and keeps its state to itself, so that it refuses with 10 to 13 and 26
+//! only.
 
 use std::collections::VecDeque;
 
