@@ -152,7 +152,24 @@ impl Times {
     }
 }
 
-/// Makes a whole run of each list once untimed, then as often as fills the timed part.
+/// A choice takes up to a quarter longer where the copies of its state lie across the processor's
+/// cache lines, which depends on where the stack stands. So a timed part goes through several
+/// positions of the stack, half of them at a multiple of 32 bytes and half between two.
+type Position = fn(&mut dyn FnMut() -> Duration) -> Duration;
+const POSITIONS: [Position; 8] =
+    [at::<0>, at::<528>, at::<1056>, at::<1584>, at::<2112>, at::<2640>, at::<3168>, at::<3696>];
+
+#[inline(never)]
+fn at<const BYTES: usize>(run: &mut dyn FnMut() -> Duration) -> Duration {
+    let mut room = [0u8; BYTES];
+    black_box(&mut room);
+    let spent = run();
+    black_box(&mut room);
+    spent
+}
+
+/// Makes a whole run of each list once untimed, then as often as fills the timed part, as often at each
+/// position.
 fn time(
     case: &Case,
     times: &mut Times,
@@ -170,8 +187,13 @@ fn time(
         start.elapsed()
     };
     let warm_up = all_lists();
-    let repeats = (TIMED_PART.as_nanos() / warm_up.as_nanos().max(1)).max(1) as u32;
-    let spent: Duration = (0..repeats).map(|_| all_lists()).sum();
+    let turn = warm_up.as_nanos().max(1) * POSITIONS.len() as u128;
+    let turns = (TIMED_PART.as_nanos() / turn).max(1) as u32;
+    let mut spent = Duration::ZERO;
+    for _ in 0..turns {
+        spent += POSITIONS.iter().map(|position| position(&mut all_lists)).sum::<Duration>();
+    }
+    let repeats = turns * POSITIONS.len() as u32;
 
     let choices: usize = case.lists.iter().map(Vec::len).sum();
     times.0.push(spent.as_nanos() as f64 / f64::from(repeats) / choices as f64);
@@ -210,8 +232,10 @@ fn print_times(measured: &[Measured]) {
          parallel by turns, pipe 0 serial) and 32 lines. Times are nanoseconds for one choice, the \
          opening included. The engine is lent the same memory for all runs, and only its opening \
          clears it; the plain stepper allocates its own for each run. {ROUNDS} rounds, in each the \
-         two sides one after the other. Ratio: the median of the rounds' ratios. Noise: by how much the \
-         slowest round is above the quickest.\n"
+         two sides one after the other, each as often at each of {} positions of the stack. Ratio: \
+         the median of the rounds' ratios. Noise: by how much the slowest round is above the \
+         quickest.\n",
+        POSITIONS.len()
     );
     println!(
         "| deferral | N | order | choices | engine, median | engine, lowest | plain, median \
