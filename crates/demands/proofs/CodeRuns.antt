@@ -125,6 +125,7 @@ module _ {file : List ℕ} (bytes : Bytes file) where
         one-worker = λ {m} t. rw (run-of t (a .plan) (a .valid) (a .file-is) .events-are) (a .demands .one-worker m);
         one-worker-stops = λ {m} t last. rw (run-of t (a .plan) (a .valid) (a .file-is) .events-are) (a .demands .one-worker-stops m last);
         one-worker-ends = λ {m} t. run-of t (a .plan) (a .valid) (a .file-is) .ended-is ∙ a .demands .one-worker-ends m;
+        lines-answered = λ {w} {m} ls t. run-of t (a .plan) (a .valid) (a .file-is) .events-are ∙ a .demands .lines-answered m w (here t .manned) ls;
       }
 
 -- a choice on a state of zeros is refused with 14

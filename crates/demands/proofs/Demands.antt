@@ -24,6 +24,7 @@ use Rattle.rules.proofs.sheet.Blocking.{stays-iff-blocked}
 use Rattle.rules.proofs.sources.Following.{ended-map, writes-map, answers-map, follow-map}
 use Rattle.rules.proofs.sources.Keeping.{follow-keeps}
 use Rattle.rules.proofs.runs.WholeRuns.{whole-run, same-end, one-worker-accepted, one-worker-ends}
+use Rattle.rules.proofs.runs.LineAnswers.{lines-answered}
 use Rattle.plan.specs.Plan.{Plan, Valid}
 use Rattle.tables.specs.State.{State, tableOf, openedTables}
 use Rattle.tables.specs.Calls.{memorySource}
@@ -246,4 +247,5 @@ module _ (p : Plan) (valid : Valid p) where
     one-worker = λ m. one-worker-accepted (ranged valid) (memory-sheet p valid m) .0;
     one-worker-stops = λ m. one-worker-accepted (ranged valid) (memory-sheet p valid m) .1;
     one-worker-ends = λ m. one-worker-ends (ranged valid) (memory-sheet p valid m);
+    lines-answered = λ m workers manned ls. lines-answered (ranged valid) manned (memory-sheet p valid m) ls;
   }

@@ -14,7 +14,7 @@ use Rattle.vocabulary.specs.declared.answer.Answer.{Answer}
 use Rattle.vocabulary.specs.declared.refusal.Refusal.{Refusal}
 use Rattle.plan.specs.Plan.{Plan, Valid, encode}
 use Rattle.tables.specs.Calls.{memorySource}
-use Rattle.demands.specs.Demands.{Shows, order, told, left, oneWorkerChoices}
+use Rattle.demands.specs.Demands.{Shows, order, told, left, oneWorkerChoices, linesChosen, linesTold}
 use Rattle.state.specs.Machines.{machineOf}
 use Rattle.engine.specs.Machines.{chosenOf}
 use Rattle.state.specs.Ending.{endedOf}
@@ -98,6 +98,8 @@ pub record CodeDemands {file : List ℕ} {workers : ℕ} {lent : List ℕ} {choi
   pub one-worker-stops : {m : List ℕ} (t : Session file 1 m (oneWorkerChoices plan)) (a : rules.Answer) →
       lastOf a (eventsOf t) ≡ Stopped (length (order plan) % plan .lines) 0
   pub one-worker-ends : {m : List ℕ} (t : Session file 1 m (oneWorkerChoices plan)) → endedOf (t .state) ≡ true
+  -- lines listed alone, by practice's workers, are answered as 01 says of the lines (2.14)
+  pub lines-answered : {w : ℕ} {m : List ℕ} (ls : List ℕ) (t : Session file w m (linesChosen plan m w ls)) → eventsOf t ≡ linesTold plan m w ls
 
 -- "A refused opening returns a state of zeros beside its number; a choice on it gets 14": nothing is written, and whatever
 -- the memory, the worker and the line, such a choice changes nothing

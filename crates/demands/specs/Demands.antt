@@ -11,7 +11,7 @@ use Rattle.rules.specs.RunState.{Machine}
 use Rattle.rules.specs.Choices.{Choice, Answer, Started, Finished, Stopped, Refused, opened, chooseBy, answers, follow, ended}
 use Rattle.rules.specs.RelatedSources.{withSource, mapMachine}
 use Rattle.rules.specs.PlainSheet.{Row, rows, sheet, plainSource}
-use Rattle.rules.specs.Workers.{choiceOf, chooseLine, OneLineEach}
+use Rattle.rules.specs.Workers.{choiceOf, choicesOf, chooseLine, lineAnswers, OneLineEach}
 use Rattle.rules.specs.Chains.{Blocked}
 use Rattle.rules.specs.WholeRuns.{WorkersInRange, Carries, ordered, accepted, startsOf, finishesOf, final}
 use Rattle.rules.specs.WholeRuns.{events, end, withWorkers, oneWorker, Accepted, lastOf}
@@ -114,6 +114,14 @@ pub record Shows (p : Plan) (workers : ℕ) (lent : List ℕ) (choices : List Ch
 abbrev pub endState : Machine State → Machine State
 endState a = withWorkers 0 (withSource a (a .source .0, take 32768 (a .source .1)))
 
+-- a list of lines alone, by practice's workers (02, 2.14), in a run of the plan; and what 01 says of the lines
+module _ (p : Plan) (m : List ℕ) (workers : ℕ) (ls : List ℕ) where
+  abbrev pub linesChosen : List Choice
+  linesChosen = choicesOf memorySource (opened (pipelineOf p) workers (begun p m)) ls
+
+  abbrev pub linesTold : List Answer
+  linesTold = lineAnswers memorySource (opened (pipelineOf p) workers (begun p m)) ls
+
 -- the choices of the one-worker run
 abbrev pub oneWorkerChoices : Plan → List Choice
 oneWorkerChoices p = oneWorker (pipelineOf p) 0 (length (order p))
@@ -133,3 +141,6 @@ pub record Demands (p : Plan) : Type 0 where
   pub one-worker : (m : List ℕ) → Every Accepted (told p m 1 (oneWorkerChoices p))
   pub one-worker-stops : (m : List ℕ) (a : Answer) → lastOf a (told p m 1 (oneWorkerChoices p)) ≡ Stopped (length (order p) % p .lines) 0
   pub one-worker-ends : (m : List ℕ) → ended (left p m 1 (oneWorkerChoices p)) ≡ true
+  -- "Where 01 lists lines alone, practice's workers go with them": they are answered as 01 says of the lines (2.14)
+  pub lines-answered : (m : List ℕ) (workers : ℕ) → WorkersInRange workers → (ls : List ℕ) →
+      told p m workers (linesChosen p m workers ls) ≡ linesTold p m workers ls

@@ -5,6 +5,8 @@ pub mod Unchanged
 pub mod Moves
 -- every choice is refused, not with 14, or makes a move;
 pub mod Steps
+-- so it leaves a machine that the invariant holds of;
+pub mod Stands
 -- the invariant holds at opening;
 pub mod Opening
 -- lists of answers;

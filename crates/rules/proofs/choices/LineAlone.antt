@@ -15,18 +15,9 @@ use Rattle.rules.specs.Workers.{firstIdle, workerFor, runningBelow, choo
 use Rattle.rules.proofs.lists.Tests.{by-test, lower, upper, below, holds, fails, see, if-not}
 use Rattle.rules.proofs.lists.Sums.{total-same, total-change, total-zero, passing, one-fails, all-pass}
 use Rattle.rules.proofs.choices.SoundMachines.{workers-some, manned}
-use Rattle.rules.proofs.choices.Workers.{at-work, FirstIdle, first-idle, none-idle, worker-runs, worker-waits}
+use Rattle.rules.proofs.choices.Workers.{at-work, not-at-work, FirstIdle, first-idle, none-idle, worker-runs, worker-waits}
 
 module _ (s : Slots) where
-  -- a worker that runs none of the lines below n is idle among them
-  not-at-work : (w n : ℕ) → ((l : ℕ) → l < n → slotAt s l .running ≡ true → slotAt s l .worker .0 ≡ w → ⊥) → atWork s w n ≡ false
-  unfolding atWork
-  not-at-work w zero none = refl
-  not-at-work w (suc n) none = elim (see (slotAt s n .running)) [
-    | fails r ↦ rw r (not-at-work w n (λ l h. none l (omega arith)))
-    | holds r ↦ rw (r, ne-eqb (slotAt s n .worker .0) w (none n (omega arith) r)) (not-at-work w n (λ l h. none l (omega arith)))
-  ]
-
   -- one more line, that does not run, or that another worker runs
   rests-no-more : (w n : ℕ) → slotAt s n .running ≡ false → atWork s w (suc n) ≡ atWork s w n
   unfolding atWork
@@ -40,14 +31,14 @@ module _ (s : Slots) where
   busy : (W n : ℕ) → ((l : ℕ) → l < n → slotAt s l .running ≡ true → slotAt s l .worker .0 < W) → OneLineEach s n →
       passing (λ w. atWork s w n) W ≡ runningBelow s n
   unfolding runningBelow
-  busy W zero man each = total-zero _ W (λ w h. rw (not-at-work w zero (λ l i. absurd (omega arith))))
+  busy W zero man each = total-zero _ W (λ w h. rw (not-at-work s w zero (λ l i. absurd (omega arith))))
   busy W (suc n) man each =
       let go : passing (λ w. atWork s w n) W ≡ runningBelow s n = busy W n (λ l h. man l (omega arith)) (λ i j a b. each i j (omega arith) (omega arith)) in
       elim (see (slotAt s n .running)) [
         | fails r ↦ rw r (omega (arith, total-same (λ w. if (atWork s w n) 1 0) (λ w. if (atWork s w (suc n)) 1 0) W (λ w h. rw (rests-no-more w n r))))
         | holds r ↦
             let v : ℕ = slotAt s n .worker .0 in
-            let was : atWork s v n ≡ false = not-at-work v n (λ l h q e. omega (arith, each l n (omega arith) (omega arith) q r e)) in
+            let was : atWork s v n ≡ false = not-at-work s v n (λ l h q e. omega (arith, each l n (omega arith) (omega arith) q r e)) in
             let is : atWork s v (suc n) ≡ true = at-work s v (suc n) n (omega arith) r refl in
             let more : passing (λ w. atWork s w (suc n)) W + 0 ≡ passing (λ w. atWork s w n) W + 1 = rw (was, is) at
             (total-change (λ w. if (atWork s w n) 1 0) (λ w. if (atWork s w (suc n)) 1 0) v W (man n (omega arith) r) (λ w h d. rw (runs-no-more w n d))) in

@@ -4,7 +4,7 @@ use mathlib.Core.Bool.{true, false}
 use Prim.Native.Nat.{ℕ, zero, suc, _+_, _≤_, _<_}
 use native.Mathlib.Omega.{arith}
 use lib.Dec.{ltb, eqb}
-use borrow.Author.Tests.{eqb-true, ltb-true, lt-ltb, eq-eqb}
+use borrow.Author.Tests.{eqb-true, ltb-true, lt-ltb, eq-eqb, ne-eqb}
 use Rattle.vocabulary.specs.declared.Slots.{Slots}
 use Rattle.rules.specs.RunState.{Machine, slotAt, slotOf, counterOf}
 use Rattle.rules.specs.Sources.{Source, Taken, Spoiled, Nothing, Took}
@@ -21,6 +21,15 @@ at-work s w zero j h r e = absurd (omega arith)
 at-work s w (suc n) j h r e = elim (sameAs j n) [
   | same q t ↦ rw (ap (λ i. slotAt s i .running) (sym q) ∙ r, eq-eqb (slotAt s n .worker .0) w (ap (λ i. slotAt s i .worker .0) (sym q) ∙ e))
   | other q t ↦ rw (at-work s w n j (omega arith) r e) (if-same (runBy w (slotAt s n)) true)
+]
+
+-- and one that runs none of the lines below n is idle among them
+pub not-at-work : (s : Slots) (w n : ℕ) → ((l : ℕ) → l < n → slotAt s l .running ≡ true → slotAt s l .worker .0 ≡ w → ⊥) → atWork s w n ≡ false
+unfolding atWork
+not-at-work s w zero none = refl
+not-at-work s w (suc n) none = elim (see (slotAt s n .running)) [
+  | fails r ↦ rw r (not-at-work s w n (λ l h. none l (omega arith)))
+  | holds r ↦ rw (r, ne-eqb (slotAt s n .worker .0) w (none n (omega arith) r)) (not-at-work s w n (λ l h. none l (omega arith)))
 ]
 
 -- the idle worker with the smallest number, of so many from w on

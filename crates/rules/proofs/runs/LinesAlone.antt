@@ -7,41 +7,16 @@ use native.Mathlib.Omega.{arith}
 use Rattle.vocabulary.specs.declared.Slot.{Slot}
 use Rattle.rules.specs.RunState.{Pipeline, Machine, slotAt}
 use Rattle.rules.specs.Sources.{Source}
-use Rattle.rules.specs.Choices.{Choice, Chosen, Answer, atWork, opened, choose}
+use Rattle.rules.specs.Choices.{Choice, atWork, opened, choose}
 use Rattle.rules.specs.Workers.{firstIdle, workerFor, choicesOf}
 use Rattle.rules.specs.WholeRuns.{PipelineInRange, WorkersInRange, Sheet, byOne}
 use Rattle.rules.proofs.lists.Tests.{lower, upper, below, holds, fails, see, never, if-same}
 use Rattle.rules.proofs.standing.Standing.{Standing}
 use Rattle.rules.proofs.invariant.Invariant.{Allowed, State, whole, Inv}
-use Rattle.rules.proofs.choices.Moves.{stops, enters, starts, finishes, Next}
-use Rattle.rules.proofs.choices.Steps.{slot-rests, slot-stopped, slot-manned, Step, refuses, moves, step}
+use Rattle.rules.proofs.choices.Steps.{slot-rests, slot-stopped, slot-manned}
 use Rattle.rules.proofs.choices.Opening.{at-opening, opening, opening-inv}
 use Rattle.rules.proofs.choices.Workers.{worker-runs, worker-waits}
-
--- a machine whose state the invariant holds of
-pub record Stands {X : Type 0} (S : Source X) (plan : Pipeline) (workers : ℕ) (order : List ℕ) (z : X) (m : Machine X) : Type 0 where
-  pub state : State X
-  pub standing : Standing
-  pub is : m ≡ whole plan workers state
-  pub kept : Inv S plan workers order z state standing
-
-module _ {X : Type 0} {S : Source X} {plan : Pipeline} {workers : ℕ} {order : List ℕ} {z : X} (ok : Allowed plan workers order) where
-  -- what a choice leaves is one
-  pub stands : (st : State X) (g : Standing) → Inv S plan workers order z st g → (w l : ℕ) →
-      Stands S plan workers order z (choose S (whole plan workers st) w l .machine)
-  stands st g inv w l = left (step ok inv w l)
-    where
-      by : {a : Answer} (st′ : State X) (g′ : Standing) → Next S plan workers order z (choose S (whole plan workers st) w l) a st′ g′ →
-          Stands S plan workers order z (choose S (whole plan workers st) w l .machine)
-      by st′ g′ n = record { state = st′; standing = g′; is = ap (λ (c : Chosen X). c .machine) (n .is); kept = n .kept }
-
-      left : Step S plan workers order z st g w l (choose S (whole plan workers st) w l) →
-          Stands S plan workers order z (choose S (whole plan workers st) w l .machine)
-      left (refuses n h e) = record { state = st; standing = g; is = ap (λ (c : Chosen X). c .machine) e; kept = inv }
-      left (moves (stops st′ f n)) = by st′ _ n
-      left (moves (enters st′ f n)) = by st′ _ n
-      left (moves (starts st′ f n)) = by st′ _ n
-      left (moves (finishes st′ f n)) = by st′ _ n
+use Rattle.rules.proofs.choices.Stands.{Stands, stands}
 
 module _ {X : Type 0} {S : Source X} {plan : Pipeline} {order : List ℕ} {z : X} (ok : Allowed plan 1 order) where
   module _ {st : State X} {g : Standing} (inv : Inv S plan 1 order z st g) (l : ℕ) where

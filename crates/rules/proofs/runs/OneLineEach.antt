@@ -22,7 +22,7 @@ use Rattle.rules.proofs.standing.Standing.{Standing}
 use Rattle.rules.proofs.invariant.Invariant.{Allowed, State, whole, Inv}
 use Rattle.rules.proofs.choices.Workers.{at-work}
 use Rattle.rules.proofs.choices.Opening.{at-opening, opening, opening-inv}
-use Rattle.rules.proofs.runs.LinesAlone.{Stands, stands}
+use Rattle.rules.proofs.choices.Stands.{Stands, stands}
 
 -- what holds of the slots before a choice, and after a start and a finish, holds after the choice
 module _ {X : Type 0} (S : Source X) (m : Machine X) (w l : ℕ) (P : Slots → Type 0) (held : P (m .slots))

@@ -14,6 +14,7 @@ use Rattle.rules.proofs.lists.Tests.{holds, fails, see, never}
 use Rattle.rules.proofs.standing.Standing.{Standing, serialAt}
 use Rattle.rules.proofs.invariant.Invariant.{Allowed, State, whole, Inv}
 use Rattle.rules.proofs.choices.Moves.{Move, stops, enters, starts, finishes, next-answer}
+use Rattle.rules.proofs.choices.Workers.{not-at-work}
 use Rattle.rules.proofs.choices.Steps.{slot-pipe, slot-rests, slot-runs, slot-stopped, slot-manned, busy-full, runs-move, waits-move}
 use Rattle.rules.proofs.runs.Ending.{running, due, mobile, goes-on}
 use Rattle.rules.proofs.choices.Answers.{started-accepted, finished-accepted, stopped-accepted}
@@ -39,9 +40,7 @@ works-on slots w (suc n) h = elim (see (slotAt slots n .running)) [
 
 -- where no line runs, every worker is idle
 pub none-works : (slots : Slots) (w n : ℕ) → ((l : ℕ) → l < n → slotAt slots l .running ≡ false) → atWork slots w n ≡ false
-unfolding atWork
-none-works slots w zero h = refl
-none-works slots w (suc n) h = rw (h n (omega arith), none-works slots w n (λ l k. h l (omega arith)))
+none-works slots w n h = not-at-work slots w n (λ l k r e. never (sym r ∙ h l k))
 
 module _ {X : Type 0} {S : Source X} {plan : Pipeline} {workers : ℕ} {order : List ℕ} {z : X} (ok : Allowed plan workers order)
     {st : State X} {g : Standing} (inv : Inv S plan workers order z st g) (e : ended (whole plan workers st) ≡ false) where
