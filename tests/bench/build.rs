@@ -1,12 +1,33 @@
-//! Links the archive that `rt staticlib whole_run` writes.
+//! Links the archive that `rt staticlib whole_run` writes, and, where BENCH_BEFORE names an older
+//! one, that too, with its function under another name.
 
 use std::env;
-use std::path::PathBuf;
+use std::fs;
+use std::path::{Path, PathBuf};
+use std::process::Command;
 
 fn main() {
     let here = PathBuf::from(env::var_os("CARGO_MANIFEST_DIR").expect("cargo sets it"));
-    let folder = here.join("../../target/staticlib");
-    println!("cargo:rerun-if-changed={}", folder.join("libwhole_run.a").display());
+    link(&here.join("../../target/staticlib"), "whole_run");
+    println!("cargo:rustc-check-cfg=cfg(before)");
+    println!("cargo:rerun-if-env-changed=BENCH_BEFORE");
+    if let Some(archive) = env::var_os("BENCH_BEFORE").filter(|name| !name.is_empty()) {
+        println!("cargo:rerun-if-changed={}", Path::new(&archive).display());
+        let folder = PathBuf::from(env::var_os("OUT_DIR").expect("cargo sets it"));
+        let copy = folder.join("libwhole_run_before.a");
+        fs::copy(&archive, &copy).expect("BENCH_BEFORE names an archive");
+        let renamed = Command::new("objcopy")
+            .arg("--redefine-sym=pipeline_run=pipeline_run_before")
+            .arg(&copy)
+            .status();
+        assert!(renamed.is_ok_and(|status| status.success()), "objcopy renames the function");
+        link(&folder, "whole_run_before");
+        println!("cargo:rustc-cfg=before");
+    }
+}
+
+fn link(folder: &Path, name: &str) {
+    println!("cargo:rerun-if-changed={}", folder.join(format!("lib{name}.a")).display());
     println!("cargo:rustc-link-search=native={}", folder.display());
-    println!("cargo:rustc-link-lib=static=whole_run");
+    println!("cargo:rustc-link-lib=static={name}");
 }

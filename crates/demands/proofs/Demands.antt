@@ -168,7 +168,7 @@ module _ (p : Plan) (valid : Valid p) where
   -- the opened memory is the same whatever was in it, but for what is beyond
   begun-beyond : (m : List ℕ) → begun p m ≡ beyond (drop 32768 m) (begun p [])
   unfolding laidOut
-  begun-beyond m = ap {B = State} (λ (l : List ℕ). (openedTables (p .tokens), l)) (spread (laidFacts (p .records)) (zeros 8192) (drop 32768 m) (drop-nil 32768))
+  begun-beyond m = ap {B = State} (λ (l : List ℕ). (openedTables (p .tokens), l)) (spread (laidFacts (p .records)) (zeros 12288) (drop 32768 m) (drop-nil 32768))
 
   -- a run keeps the length of the opened memory
   memory-lent : (m : List ℕ) (workers : ℕ) (cs : List Choice) → length (left p m workers cs .source .1) ≡ 32768 + (length m - 32768)

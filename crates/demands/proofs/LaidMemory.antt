@@ -22,10 +22,10 @@ use Rattle.loading.specs.Plans.{filledUp, numbersIn}
 use Rattle.loading.specs.Layout.{recordFields, recordsFields, placeOf, zeros, laidFacts}
 use Rattle.loading.proofs.memory_laid.LayoutLaws.{length-filled, length-zeros, zeros-at}
 
--- where a token's record stands among the fields of the records: nowhere, or its count after some fields, its token the last of them
+-- where a token's record stands among the fields of the records: nowhere, or its count after some fields
 data Placed (from : ℕ) (rs : List Record) (n : ℕ) : Type 0 where
   nowhere : placeOf from rs n ≡ 0 → numbersIn rs n ≡ [] → Placed from rs n
-  among : (front after : List ℕ) → 1 ≤ length front → placeOf from rs n ≡ from + length front →
+  among : (front after : List ℕ) → placeOf from rs n ≡ from + length front + 1 →
       recordsFields rs ≡ front ++ (length (numbersIn rs n) ∷ (numbersIn rs n ++ after)) →
       1 ≤ length (numbersIn rs n) → length (numbersIn rs n) ≤ 16 → Placed from rs n
 
@@ -33,13 +33,13 @@ placed : (tokens from : ℕ) (rs : List Record) (n : ℕ) → Every (ValidRecord
 unfolding placeOf recordsFields numbersOf
 placed tokens from [] n each = nowhere refl refl
 placed tokens from (r ∷ rs) n each = by-test (eqb (r .token) n)
-    (λ e. among (r .token ∷ []) (recordsFields rs) (omega arith) (rw e (omega arith)) (rw e) (rw e (each .0 .some)) (rw e (each .0 .most)))
-    (λ e. later e (placed tokens (from + (2 + length (r .numbers))) rs n (each .1)))
+    (λ e. among [] (recordsFields rs) (rw e (omega arith)) (rw e) (rw e (each .0 .some)) (rw e (each .0 .most)))
+    (λ e. later e (placed tokens (from + (1 + length (r .numbers))) rs n (each .1)))
   where
-    later : eqb (r .token) n ≡ false → Placed (from + (2 + length (r .numbers))) rs n → Placed from (r ∷ rs) n
+    later : eqb (r .token) n ≡ false → Placed (from + (1 + length (r .numbers))) rs n → Placed from (r ∷ rs) n
     later e (nowhere at lists) = nowhere (rw e at) (rw e lists)
-    later e (among front after begun at are some most) =
-        among (recordFields r ++ front) after (omega arith)
+    later e (among front after at are some most) =
+        among (recordFields r ++ front) after
         (rw (e, at) (omega (arith, length-append (recordFields r) front)))
         (rw (e, are, append-assoc (r .numbers) front))
         (rw e some) (rw e most)
@@ -49,16 +49,19 @@ module _ (front ns rest f : List ℕ) (are : f ≡ front ++ (length ns ∷ (ns +
   count-at : getD f (length front) 0 ≡ length ns
   count-at = rw (are, getD-at front (length ns) (ns ++ rest) 0 (length front) refl)
 
-  part-at : 1 ≤ length front → 1 ≤ length ns → length ns ≤ 16 → length front + 1 + length ns ≤ 16384 →
-      numbersAt f (length front) ≡ Numbers.Part (length front + 1) (length front + 1 + length ns)
+  part-at : 1 ≤ length ns → length ns ≤ 16 → length front + 1 + length ns ≤ 12288 →
+      numbersAt f (length front + 1) ≡ Numbers.Part (length front + 1) (length front + 1 + length ns)
   unfolding numbersAt
-  part-at begun some most fits = rw (
-    count-at,
-    ne-eqb (length front) 0 (omega arith),
-    le-leb (length front + 1 + length ns) 16384 fits,
-    le-leb 1 (length ns) some,
-    le-leb (length ns) 16 most,
-  )
+  part-at some most fits =
+      let head : length front + 1 - 1 ≡ length front = omega arith in
+      rw (
+        head,
+        count-at,
+        ne-eqb (length front + 1) 0 (omega arith),
+        le-leb (length front + 1 + length ns) 12288 fits,
+        le-leb 1 (length ns) some,
+        le-leb (length ns) 16 most,
+      )
 
   numbers-at : take (length front + 1 + length ns - (length front + 1)) (drop (length front + 1) f) ≡ ns
   numbers-at = rw (are, drop-append-add front (length ns ∷ (ns ++ rest)) 1) (take-at ns rest (length front + 1 + length ns - (length front + 1)) (omega arith))
@@ -72,22 +75,22 @@ regroup front count ns after rest tail e = rw e (simp append-assoc)
 behind : {A : Type 0} (xs ys : List A) (k n : ℕ) (d : A) → length xs ≡ k → getD (xs ++ ys) (k + n) d ≡ getD ys n d
 behind xs ys k n d e = rw (← e) (getD-append-add xs ys n d)
 
-module _ (rs : List Record) (fits : length (recordsFields rs) ≤ 16384) where
-  pub length-facts : length (laidFacts rs) ≡ 24576
+module _ (rs : List Record) (fits : length (recordsFields rs) ≤ 12288) where
+  pub length-facts : length (laidFacts rs) ≡ 20480
   unfolding laidFacts
   length-facts = omega (
     arith,
-    length-append (filledUp 16384 0 (recordsFields rs)) (table 4096 (placeOf 0 rs) ++ zeros 4096),
+    length-append (filledUp 12288 0 (recordsFields rs)) (table 4096 (placeOf 0 rs) ++ zeros 4096),
     length-append (table 4096 (placeOf 0 rs)) (zeros 4096),
-    length-filled 16384 0 (recordsFields rs) fits,
+    length-filled 12288 0 (recordsFields rs) fits,
     length-table 4096 (placeOf 0 rs),
     length-zeros 4096,
   )
 
-  place-at : (n : ℕ) → n < 4096 → getD (laidFacts rs) (16384 + n) 0 ≡ placeOf 0 rs n
+  place-at : (n : ℕ) → n < 4096 → getD (laidFacts rs) (12288 + n) 0 ≡ placeOf 0 rs n
   unfolding laidFacts
   place-at n h =
-      behind (filledUp 16384 0 (recordsFields rs)) _ 16384 n 0 (length-filled 16384 0 (recordsFields rs) fits)
+      behind (filledUp 12288 0 (recordsFields rs)) _ 12288 n 0 (length-filled 12288 0 (recordsFields rs) fits)
       ∙ List·getD-append (table 4096 (placeOf 0 rs)) (zeros 4096) 0 n (rw length-table h)
       ∙ getD-table 4096 (placeOf 0 rs) n 0 h
 
@@ -95,8 +98,8 @@ module _ (rs : List Record) (fits : length (recordsFields rs) ≤ 16384) where
   pub laid-standing : (n : ℕ) → standingOf (laidFacts rs) n ≡ 0
   unfolding laidFacts standingOf
   laid-standing n =
-      let e : 20480 + n ≡ 16384 + (4096 + n) = omega arith in
-      rw e (behind (filledUp 16384 0 (recordsFields rs)) _ 16384 (4096 + n) 0 (length-filled 16384 0 (recordsFields rs) fits)
+      let e : 16384 + n ≡ 12288 + (4096 + n) = omega arith in
+      rw e (behind (filledUp 12288 0 (recordsFields rs)) _ 12288 (4096 + n) 0 (length-filled 12288 0 (recordsFields rs) fits)
       ∙ behind (table 4096 (placeOf 0 rs)) (zeros 4096) 4096 n 0 (length-table 4096 (placeOf 0 rs))
       ∙ zeros-at 4096 n)
 
@@ -107,13 +110,13 @@ module _ (rs : List Record) (fits : length (recordsFields rs) ≤ 16384) where
     where
       go : Placed 0 rs n → Recorded (laidFacts rs) n (numbersIn rs n)
       go (nowhere at lists) = (0, 0, rw (place-at n h, at), sym lists)
-      go (among front after begun at are some most) =
+      go (among front after at are some most) =
           let ns : List ℕ = numbersIn rs n in
-          let rest : List ℕ = after ++ (replicate (16384 - length (recordsFields rs)) 0 ++ (table 4096 (placeOf 0 rs) ++ zeros 4096)) in
+          let rest : List ℕ = after ++ (replicate (12288 - length (recordsFields rs)) 0 ++ (table 4096 (placeOf 0 rs) ++ zeros 4096)) in
           let shape : laidFacts rs ≡ front ++ (length ns ∷ (ns ++ rest)) = regroup front (length ns) ns after _ _ are in
-          let short : length front + 1 + length ns ≤ 16384 = omega (arith, simp length-append at (ap length are)) in (
+          let short : length front + 1 + length ns ≤ 12288 = omega (arith, simp length-append at (ap length are)) in (
             length front + 1,
             length front + 1 + length ns,
-            rw (place-at n h, at, zero-add) (part-at front ns rest (laidFacts rs) shape begun some most short),
+            rw (place-at n h, at, zero-add) (part-at front ns rest (laidFacts rs) shape some most short),
             numbers-at front ns rest (laidFacts rs) shape,
           )

@@ -78,18 +78,18 @@ module _ {p : Plan} (valid : Valid p) where
   others = none-self (p .tokens) (p .records) (valid .records)
 
   module _ (m : List ℕ) where
-    facts-are : take 24576 (laidOut (p .records) m) ≡ laidFacts (p .records)
+    facts-are : take 20480 (laidOut (p .records) m) ≡ laidFacts (p .records)
     unfolding laidOut
-    facts-are = take-at (laidFacts (p .records)) (zeros 8192 ++ drop 32768 m) 24576 (length-facts (p .records) (fits valid))
+    facts-are = take-at (laidFacts (p .records)) (zeros 12288 ++ drop 32768 m) 20480 (length-facts (p .records) (fits valid))
 
     pub length-laid : length (laidOut (p .records) m) ≡ 32768 + (length m - 32768)
     unfolding laidOut
     length-laid = omega (
       arith,
-      length-append (laidFacts (p .records)) (zeros 8192 ++ drop 32768 m),
-      length-append (zeros 8192) (drop 32768 m),
+      length-append (laidFacts (p .records)) (zeros 12288 ++ drop 32768 m),
+      length-append (zeros 12288) (drop 32768 m),
       length-facts (p .records) (fits valid),
-      length-zeros 8192,
+      length-zeros 12288,
       length-drop 32768 m,
     )
 
@@ -97,10 +97,10 @@ module _ {p : Plan} (valid : Valid p) where
     pub whole : 32768 ≤ length (laidOut (p .records) m)
     whole = omega (arith, length-laid)
 
-    pub recorded : (n : ℕ) → n < p .tokens → Recorded (take 24576 (laidOut (p .records) m)) n (numbersIn (p .records) n)
+    pub recorded : (n : ℕ) → n < p .tokens → Recorded (take 20480 (laidOut (p .records) m)) n (numbersIn (p .records) n)
     recorded n h =
         subst (λ (f : List ℕ). Recorded f n (numbersIn (p .records) n)) (sym facts-are)
         (laid-recorded (p .records) (fits valid) (p .tokens) (valid .records) n (omega (arith, valid .tokens)))
 
-    pub unmarked : (n : ℕ) → standingOf (take 24576 (laidOut (p .records) m)) n ≡ 0
+    pub unmarked : (n : ℕ) → standingOf (take 20480 (laidOut (p .records) m)) n ≡ 0
     unmarked n = ap (λ (f : List ℕ). standingOf f n) facts-are ∙ laid-standing (p .records) (fits valid) n

@@ -1,7 +1,7 @@
 // What the facts of the tokens, a part of the memory, say of one token.
 use tables::DEFERRED_MARK;
 use tables::FINISHED_MARK;
-use tables::LAST_PLACE;
+use tables::Hold;
 use tables::NO_MARK;
 use tables::Numbers;
 use tables::POSITIONS;
@@ -9,12 +9,11 @@ use tables::Question;
 use tables::RECORD_NUMBERS;
 use tables::STANDINGS;
 use tables::TOKENS;
-use tables::Test;
 ghost use mathlib.Core.Path.{_≡_};
 ghost use Prim.Native.Nat.{_<_, _≤_};
 ghost use lib.ListN.{length};
 ghost use Rattle.tables.specs.Layout.{deferredAt, mostTokens};
-ghost use Rattle.tables.specs.Facts.{standingOf, numbersAt, numbersOf, holdsOf, anyOf, freeOf, wakesOf, waitsAtOnce};
+ghost use Rattle.tables.specs.Facts.{standingOf, numbersAt, numbersOf, holdsOf, lastOf, holdOf, newHold, leftHold};
 
 fn wide(x: u16) -> usize
     ensures same { λ r. ⌜ r ≡ x ⌝ }
@@ -44,11 +43,11 @@ fn numbers_at(facts: &[u16], place: usize) -> Numbers
     if place == 0 {
         return Numbers::Part(0, 0);
     }
-    if POSITIONS <= place {
+    if POSITIONS < place {
         return Numbers::Bad;
     }
-    let count = wide(facts[place]);
-    if POSITIONS < place + 1 + count {
+    let count = wide(facts[place - 1]);
+    if POSITIONS < place + count {
         return Numbers::Bad;
     }
     if count < 1 {
@@ -57,7 +56,7 @@ fn numbers_at(facts: &[u16], place: usize) -> Numbers
     if RECORD_NUMBERS < count {
         return Numbers::Bad;
     }
-    Numbers::Part(place + 1, place + 1 + count)
+    Numbers::Part(place, place + count)
 }
 
 // Where a token's numbers stand.
@@ -93,87 +92,55 @@ fn holds(facts: &[u16], question: Question, number: u16) -> bool
             }
             number != token
         }
-        Question::Same(token) => number == token,
     }
 }
 
-// Whether the answer is yes for any number of a record's number part.
-fn any(facts: &[u16], numbers: &[u16], question: Question) -> bool
+// The last number of a record's number part for which the answer is yes.
+fn last(facts: &[u16], numbers: &[u16], question: Question) -> Hold
     requires { ⌜ length (now facts) ≡ deferredAt ⌝ }
-    ensures { λ r. ⌜ r ≡ anyOf (now (facts .entry)) question (now (numbers .entry)) ⌝ }
+    ensures { λ r. ⌜ r ≡ lastOf (holdsOf (now (facts .entry)) question) (now (numbers .entry)) ⌝ }
 {
-    let mut i = 0;
-    while i < numbers.len() {
-        if holds(facts, question, numbers[i]) {
-            return true;
+    let mut i = numbers.len();
+    while 0 < i {
+        let number = numbers[i - 1];
+        if holds(facts, question, number) {
+            return Hold::By(number);
         }
-        i += 1;
+        i -= 1;
     }
-    false
+    Hold::Free
 }
 
-// Whether none of a new token's numbers is due.
-pub(crate) fn free(facts: &[u16], count: u16, token: u16) -> Test
+// What holds a token: the last of its numbers for which the answer is yes.
+fn held(facts: &[u16], question: Question, token: u16) -> Hold
     requires { ⌜ length (now facts) ≡ deferredAt ⌝ }
     requires { ⌜ token < mostTokens ⌝ }
-    ensures { λ r. ⌜ r ≡ freeOf (now (facts .entry)) count token ⌝ }
+    ensures { λ r. ⌜ r ≡ holdOf (now (facts .entry)) question token ⌝ }
 {
     let found = numbers(facts, token);
     let Numbers::Part(a, b) = found else {
-        return Test::Unsound;
+        return Hold::Unsound;
     };
-    if any(facts, &facts[a..b], Question::Due(count, token)) {
-        return Test::No;
-    }
-    Test::Yes
+    last(facts, &facts[a..b], question)
 }
 
-// Whether a deferred token, below N, waits for this one alone.
-pub(crate) fn wakes(facts: &[u16], tokens: u16, past: u16, token: u16) -> Test
+// What holds a new token: a number that is due.
+pub(crate) fn new_hold(facts: &[u16], count: u16, token: u16) -> Hold
     requires { ⌜ length (now facts) ≡ deferredAt ⌝ }
-    requires { ⌜ tokens ≤ mostTokens ⌝ }
-    ensures { λ r. ⌜ r ≡ wakesOf (now (facts .entry)) tokens past token ⌝ }
+    requires { ⌜ token < mostTokens ⌝ }
+    ensures { λ r. ⌜ r ≡ newHold (now (facts .entry)) count token ⌝ }
 {
-    if tokens <= token {
-        return Test::Unsound;
-    }
-    let found = numbers(facts, token);
-    let Numbers::Part(a, b) = found else {
-        return Test::Unsound;
-    };
-    let part = &facts[a..b];
-    if any(facts, part, Question::Left(past)) {
-        return Test::No;
-    }
-    if any(facts, part, Question::Same(past)) {
-        return Test::Yes;
-    }
-    Test::No
+    held(facts, Question::Due(count, token), token)
 }
 
-// Whether it is seen at once that a deferred token still waits: its record lies well among the records, and its last number, the
-// highest, holds it. Most tokens of the table are passed over by this alone: the highest number is mostly the last to finish.
-pub(crate) fn waits_at_once(facts: &[u16], tokens: u16, past: u16, token: u16) -> bool
+// What still holds a deferred token, below N, once this one has finished.
+pub(crate) fn left_hold(facts: &[u16], tokens: u16, past: u16, token: u16) -> Hold
     requires { ⌜ length (now facts) ≡ deferredAt ⌝ }
     requires { ⌜ tokens ≤ mostTokens ⌝ }
-    ensures { λ r. ⌜ r ≡ waitsAtOnce (now (facts .entry)) tokens past token ⌝ }
+    ensures { λ r. ⌜ r ≡ leftHold (now (facts .entry)) tokens past token ⌝ }
 {
     if tokens <= token {
-        return false;
+        return Hold::Unsound;
     }
-    let place = wide(facts[POSITIONS + wide(token)]);
-    if place == 0 {
-        return false;
-    }
-    if LAST_PLACE < place {
-        return false;
-    }
-    let count = wide(facts[place]);
-    if count < 1 {
-        return false;
-    }
-    if RECORD_NUMBERS < count {
-        return false;
-    }
-    holds(facts, Question::Left(past), facts[place + count])
+    held(facts, Question::Left(past), token)
 }

@@ -1,5 +1,7 @@
 // A token's finish at pipe 0, on the tables in lent memory.
 mod in_range;
+mod moving;
+mod watching;
 
 use tables::Released;
 use tables::Tables;

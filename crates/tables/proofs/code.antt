@@ -3,9 +3,11 @@
 pub mod TakingLaws
 -- a token's finish, and walks over the deferred table;
 pub mod ReleasingLaws
--- past the tokens that are seen at once to wait;
-pub mod WaitingLaws
--- the loops that write at a finish;
+-- the scan for the cells that watch a number;
+pub mod ScanLaws
+-- numbers moved to lower cells;
+pub mod MovingLaws
+-- the other loops of a finish;
 pub mod Passes
 -- these loops one after the other;
 pub mod Moves

@@ -7,3 +7,5 @@ pub mod Ranges
 pub mod FactsLaws
 -- what the writes do to the standings, the records, the deferred table and the ready queue.
 pub mod MemoryLaws
+-- picked lists, and the watches after a finish.
+pub mod PickLaws

@@ -1,40 +1,30 @@
 -- The calls for any tables and memory: what it says of a token, taking and a token's finish; and the tables in memory as a source of tokens.
 use mathlib.Core.List.{List}
-use Prim.Native.Nat.{ℕ, _+_}
+use Prim.Native.Nat.{ℕ}
 use lib.Dec.{leb, ltb}
 use lib.ListN.{length}
-use lib.Seq.{slice}
 use Rattle.rules.specs.Lists.{must}
 use Rattle.rules.specs.Sources.{Source, Taken, Spoiled, Released, Broken}
-use Rattle.tables.specs.declared.Test.{Test}
-use Rattle.tables.specs.Layout.{readyAt, lent, mostTokens, factsOf}
-use Rattle.tables.specs.Facts.{freeOf, wakesOf, waitsAtOnce, leading}
+use Rattle.tables.specs.declared.Hold.{Hold}
+use Rattle.tables.specs.Layout.{lent, mostTokens, factsOf}
+use Rattle.tables.specs.Facts.{newHold, leftHold}
 use Rattle.tables.specs.State.{State, soundOf}
 use Rattle.tables.specs.Taking.{takeOf}
 use Rattle.tables.specs.Releasing.{releaseOf}
 
--- whether a new token is free, and whether a deferred one wakes: unsound too where fewer than 32,768 numbers are lent,
+-- what holds a new token, and what still holds a deferred one: unsound too where fewer than 32,768 numbers are lent,
 -- or where the token, or N, is outside its range
-unfoldable pub safeFree : List ℕ → ℕ → ℕ → Test
-safeFree m count t =
-    must (leb lent (length m)) Test.Unsound
-    (must (ltb t mostTokens) Test.Unsound
-    (freeOf (factsOf m) count t))
+unfoldable pub safeNewHold : List ℕ → ℕ → ℕ → Hold
+safeNewHold m count t =
+    must (leb lent (length m)) Hold.Unsound
+    (must (ltb t mostTokens) Hold.Unsound
+    (newHold (factsOf m) count t))
 
-unfoldable pub safeWakes : List ℕ → ℕ → ℕ → ℕ → Test
-safeWakes m tokens d t =
-    must (leb lent (length m)) Test.Unsound
-    (must (leb tokens mostTokens) Test.Unsound
-    (wakesOf (factsOf m) tokens d t))
-
--- the first cell from `from` on whose token is not seen at once to wait, or `last`;
--- `from` itself where fewer than 32,768 numbers are lent, or where N or `last` is outside its range
-unfoldable pub pastWaiting : List ℕ → ℕ → ℕ → ℕ → ℕ → ℕ
-pastWaiting m tokens d from last =
-    must (leb lent (length m)) from
-    (must (leb tokens mostTokens) from
-    (must (leb last readyAt) from
-    (from + leading (waitsAtOnce (factsOf m) tokens d) (slice from last m))))
+unfoldable pub safeLeftHold : List ℕ → ℕ → ℕ → ℕ → Hold
+safeLeftHold m tokens d t =
+    must (leb lent (length m)) Hold.Unsound
+    (must (leb tokens mostTokens) Hold.Unsound
+    (leftHold (factsOf m) tokens d t))
 
 -- "14 if fewer than 32,768 numbers are lent or a number in state or memory is outside its range", before all else
 unfoldable pub safeTake : State → Taken State

@@ -5,13 +5,16 @@ use lib.ListN.{take}
 
 -- where the parts of the memory begin, after the records
 abbrev pub positionsAt : ℕ
-positionsAt = 16384
+positionsAt = 12288
 
 abbrev pub standingAt : ℕ
-standingAt = 20480
+standingAt = 16384
 
 abbrev pub deferredAt : ℕ
-deferredAt = 24576
+deferredAt = 20480
+
+abbrev pub watchesAt : ℕ
+watchesAt = 24576
 
 abbrev pub readyAt : ℕ
 readyAt = 28672
@@ -27,10 +30,6 @@ mostTokens = 4096
 -- "count (1 to 16)"
 abbrev pub mostNumbers : ℕ
 mostNumbers = 16
-
--- the last place at which a record of so many numbers still ends among the records
-abbrev pub lastPlace : ℕ
-lastPlace = 16367
 
 -- the standings: none of these, in the deferred table, in the ready queue now, has finished pipe 0
 abbrev pub noMark : ℕ

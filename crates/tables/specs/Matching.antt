@@ -1,7 +1,7 @@
 -- When the tables in memory stand for the tables of the rules.
 use mathlib.Core.Path.{_≡_}
 use mathlib.Core.Bool.{Bool, true, false, not}
-use mathlib.Core.List.{List, _++_}
+use mathlib.Core.List.{List, [], _∷_, _++_}
 use Prim.Native.Nat.{ℕ, _+_, _-_, _<_, _≤_}
 use lib.Dec.{eqb}
 use lib.ListN.{length, take, drop}
@@ -12,7 +12,7 @@ use Rattle.tables.specs.declared.Tables.{Tables}
 use Rattle.tables.specs.declared.Numbers.{Numbers}
 use Rattle.tables.specs.Layout.{lent, noMark, deferredMark, readyMark, finishedMark, factsOf}
 use Rattle.tables.specs.Facts.{standingOf, numbersOf}
-use Rattle.tables.specs.State.{State, InRange, tableOf, queueOf}
+use Rattle.tables.specs.State.{State, InRange, tableOf, watchesOf, queueOf}
 
 -- a state with more memory lent
 abbrev pub beyond : List ℕ → State → State
@@ -25,6 +25,13 @@ Recorded f n ns = (a : ℕ) × (b : ℕ) × (numbersOf f n ≡ Numbers.Part a b)
 -- a deferred token waits for the numbers of its record that have not finished pipe 0, and there are some
 abbrev pub Waits : (ℕ → List ℕ) → (ℕ → ℕ) → Held → Type 0
 Waits numbers standing h = (h .due ≡ keep (λ n. not (eqb (standing n) finishedMark)) (numbers (h .token))) × (empty (h .due) ≡ false)
+
+-- each watch is one of the numbers that its token still waits for
+abbrev pub Watched : List Held → List ℕ → Type 0
+Watched [] [] = Unit {0}
+Watched [] (w ∷ ws) = ⊥
+Watched (h ∷ hs) [] = ⊥
+Watched (h ∷ hs) (w ∷ ws) = (has (h .due) w ≡ true) × Watched hs ws
 
 -- the standings fit the rules' tables, while some tokens, which `out` tells, were taken and have not finished pipe 0
 pub record Standing (numbers : ℕ → List ℕ) (a : rules.Tables) (standing : ℕ → ℕ) (out : ℕ → Bool) : Type 0 where
@@ -50,6 +57,7 @@ pub record Match (tokens : ℕ) (numbers : ℕ → List ℕ) (a : rules.Tables) 
   pub room : x .0 .end + x .0 .held ≤ x .0 .count
   pub queue : queueOf (x .0) (x .1) ≡ a .ready
   pub table : tableOf (x .0) (x .1) ≡ tokensOf (a .deferred)
+  pub watched : Watched (a .deferred) (watchesOf (x .0) (x .1))
   pub records : (n : ℕ) → n < tokens → Recorded (factsOf (x .1)) n (numbers n)
   pub standing : Standing numbers a (standingOf (factsOf (x .1))) out
 

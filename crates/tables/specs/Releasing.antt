@@ -1,85 +1,113 @@
 -- A token's finish at pipe 0, on the tables in memory.
+use mathlib.Core.Path.{_≡_}
 use mathlib.Core.Bool.{Bool, true, false, not}
-use mathlib.Core.List.{List}
-use Prim.Native.Nat.{ℕ, _+_, _-_}
-use lib.Dec.{leb}
-use lib.ListN.{length, set, replicate}
+use mathlib.Core.List.{List, [], _∷_}
+use Prim.Native.Nat.{ℕ, _+_, _-_, _<_, _≤_}
+use lib.Dec.{leb, eqb}
+use lib.ListN.{length, getD, set, replicate}
 use lib.Seq.{sets, slice}
 use Rattle.rules.specs.Lists.{if, must, mustNot, keep, any}
 use Rattle.rules.specs.Sources.{Released as Outcome, Broken, Passed}
 use Rattle.tables.specs.declared.Tables.{Tables}
 use Rattle.tables.specs.declared.Released.{Released}
-use Rattle.tables.specs.declared.Test.{Test}
+use Rattle.tables.specs.declared.Hold.{Hold}
 use Rattle.tables.specs.declared.Count.{Count}
-use Rattle.tables.specs.Layout.{standingAt, deferredAt, readyAt, mostTokens, readyMark, finishedMark, factsOf}
-use Rattle.tables.specs.Facts.{byTest, wakesOf}
-use Rattle.tables.specs.State.{State, marks, tableOf}
+use Rattle.tables.specs.Layout.{standingAt, deferredAt, watchesAt, readyAt, mostTokens, readyMark, finishedMark, factsOf}
+use Rattle.tables.specs.Facts.{byHold, leftHold}
+use Rattle.tables.specs.State.{State, marks, tableOf, watchesOf}
 
-abbrev pub isYes : Test → Bool
-isYes x = byTest x false true false
+abbrev pub isFree : Hold → Bool
+isFree x = byHold x false true (λ n. false)
 
-abbrev pub isUnsound : Test → Bool
-isUnsound x = byTest x true false false
+abbrev pub isUnsound : Hold → Bool
+isUnsound x = byHold x true false (λ n. false)
 
--- the tokens of a list that wake, and those that stay
-unfoldable pub wokenOf : (ℕ → Test) → List ℕ → List ℕ
-wokenOf wakes l = keep (λ t. isYes (wakes t)) l
+-- the elements of a list at which a list in step with it passes a test
+unfoldable pub pick : (ℕ → Bool) → List ℕ → List ℕ → List ℕ
+pick test [] ws = []
+pick test (x ∷ xs) [] = []
+pick test (x ∷ xs) (w ∷ ws) = if (test w) (x ∷ pick test xs ws) (pick test xs ws)
 
-unfoldable pub stayingOf : (ℕ → Test) → List ℕ → List ℕ
-stayingOf wakes l = keep (λ t. not (isYes (wakes t))) l
+-- a watch is this number, or is not, as `watching` asks
+abbrev pub watches : Bool → ℕ → ℕ → Bool
+watches watching d w = if watching (eqb w d) (not (eqb w d))
 
--- the first or the second of these, and whether a token with this answer is one of them
-abbrev pub siftedOf : Bool → (ℕ → Test) → List ℕ → List ℕ
-siftedOf waking wakes l = if waking (wokenOf wakes l) (stayingOf wakes l)
-
-abbrev pub picked : Bool → Test → Bool
-picked waking x = if waking (isYes x) (not (isYes x))
-
--- n more than the tokens of a list that wake, unless one of its records is bad
-unfoldable pub tallyOf : (ℕ → Test) → ℕ → List ℕ → Count
-tallyOf wakes n l =
-    mustNot (any (λ t. isUnsound (wakes t)) l) Count.Unknown
-    (Count.Known (n + length (wokenOf wakes l)))
-
--- the tokens in the cells from one up to another that wake at a token's finish, and those that stay
-abbrev pub wokenFrom : List ℕ → ℕ → ℕ → ℕ → ℕ → List ℕ
-wokenFrom m tokens d cell last = wokenOf (wakesOf (factsOf m) tokens d) (slice cell last m)
-
-abbrev pub stayingFrom : List ℕ → ℕ → ℕ → ℕ → ℕ → List ℕ
-stayingFrom m tokens d cell last = stayingOf (wakesOf (factsOf m) tokens d) (slice cell last m)
-
+-- the numbers in the cells from one up to another, of those that begin at `base`, whose watches are this number, or are not
 abbrev pub siftedFrom : Bool → List ℕ → ℕ → ℕ → ℕ → ℕ → List ℕ
-siftedFrom waking m tokens d cell last = siftedOf waking (wakesOf (factsOf m) tokens d) (slice cell last m)
+siftedFrom watching m base d cell held =
+    pick (watches watching d) (slice (base + cell) (base + held) m) (slice (watchesAt + cell) (watchesAt + held) m)
 
--- the same for the whole deferred table, and whether a record there is bad
-abbrev pub wokenIn : Tables → ℕ → List ℕ → List ℕ
-wokenIn t d m = wokenFrom m (t .tokens) d deferredAt (deferredAt + t .held)
+-- the first cell from one on whose watch is this number, or `held` where there is none
+pub record Next (m : List ℕ) (d cell held found : ℕ) : Type 0 where
+  pub from : cell ≤ found
+  pub upto : found ≤ held
+  pub none : (i : ℕ) → cell ≤ i → i < found → getD m (watchesAt + i) 0 ≡ d → ⊥
+  pub hit : found < held → getD m (watchesAt + found) 0 ≡ d
 
-abbrev pub stayingIn : Tables → ℕ → List ℕ → List ℕ
-stayingIn t d m = stayingFrom m (t .tokens) d deferredAt (deferredAt + t .held)
+-- of the tokens that watch this number: n more than those that nothing holds without it, unless a record is bad
+unfoldable pub tallyOf : (ℕ → Hold) → ℕ → List ℕ → Count
+tallyOf hold n ts =
+    mustNot (any (λ t. isUnsound (hold t)) ts) Count.Unknown
+    (Count.Known (n + length (keep (λ t. isFree (hold t)) ts)))
+
+-- the watch of a token after the finish of d: another where it watches d and another number holds it, else as before
+unfoldable pub newWatch : (ℕ → Hold) → ℕ → ℕ → ℕ → ℕ
+newWatch hold d t w = if (eqb w d) (byHold (hold t) w w (λ n. n)) w
+
+unfoldable pub newWatches : (ℕ → Hold) → ℕ → List ℕ → List ℕ → List ℕ
+newWatches hold d [] ws = []
+newWatches hold d (t ∷ ts) [] = []
+newWatches hold d (t ∷ ts) (w ∷ ws) = newWatch hold d t w ∷ newWatches hold d ts ws
+
+-- the new watches of the cells from one up to another
+abbrev pub renewedFrom : List ℕ → ℕ → ℕ → ℕ → ℕ → List ℕ
+renewedFrom m tokens d cell held =
+    newWatches (leftHold (factsOf m) tokens d) d (slice (deferredAt + cell) (deferredAt + held) m) (slice (watchesAt + cell) (watchesAt + held) m)
+
+-- the tokens of the deferred table that watch a number, and whether a record of one of them is bad
+abbrev pub watchersIn : Tables → ℕ → List ℕ → List ℕ
+watchersIn t d m = pick (watches true d) (tableOf t m) (watchesOf t m)
 
 abbrev pub unsoundIn : Tables → ℕ → List ℕ → Bool
-unsoundIn t d m = any (λ n. isUnsound (wakesOf (factsOf m) (t .tokens) d n)) (tableOf t m)
+unsoundIn t d m = any (λ n. isUnsound (leftHold (factsOf m) (t .tokens) d n)) (watchersIn t d m)
+
+-- the table's watches after a token's finish
+abbrev pub renewedIn : Tables → ℕ → List ℕ → List ℕ
+renewedIn t d m = newWatches (leftHold (factsOf m) (t .tokens) d) d (tableOf t m) (watchesOf t m)
+
+-- the tokens that no other number holds: they watch it still, and wake; the others stay, with their watches
+abbrev pub wokenIn : Tables → ℕ → List ℕ → List ℕ
+wokenIn t d m = pick (watches true d) (tableOf t m) (renewedIn t d m)
+
+abbrev pub stayingIn : Tables → ℕ → List ℕ → List ℕ
+stayingIn t d m = pick (watches false d) (tableOf t m) (renewedIn t d m)
+
+abbrev pub watchingIn : Tables → ℕ → List ℕ → List ℕ
+watchingIn t d m = pick (watches false d) (renewedIn t d m) (renewedIn t d m)
 
 -- rule 4: "One with none left moves from the deferred table to the end of the ready queue."
 unfoldable pub movedTables : Tables → ℕ → List ℕ → Tables
 movedTables t d m =
     record { tokens = t .tokens; count = t .count; first = t .first; end = t .end + length (wokenIn t d m); held = length (stayingIn t d m) }
 
--- the memory after a finish: the woken join the ready queue at its end, the others close up, the freed cells become 0,
--- and the woken and the finished token have their new standings
-abbrev pub movedBy : List ℕ → ℕ → ℕ → ℕ → List ℕ → List ℕ → List ℕ
-movedBy m end held d woken staying =
-    let queued : List ℕ = sets m (readyAt + end) woken in
-    let closed : List ℕ = sets queued deferredAt staying in
-    let cleared : List ℕ = sets closed (deferredAt + length staying) (replicate (held - length staying) 0) in
-    set (marks cleared readyMark woken) (standingAt + d) finishedMark
+-- the table and its watches, where some tokens stay: these close up, and the freed cells become 0
+abbrev pub closedBy : List ℕ → ℕ → List ℕ → List ℕ → List ℕ
+closedBy m held staying watching =
+    let closed : List ℕ = sets (sets m deferredAt staying) watchesAt watching in
+    let freed : List ℕ = replicate (held - length staying) 0 in
+    sets (sets closed (deferredAt + length staying) freed) (watchesAt + length staying) freed
+
+-- the memory, its watches renewed, after the woken joined the ready queue at its end and the others closed up;
+-- the woken and the finished token have their new standings
+abbrev pub movedBy : List ℕ → ℕ → ℕ → ℕ → List ℕ → List ℕ → List ℕ → List ℕ
+movedBy m end held d woken staying watching =
+    set (marks (closedBy (sets m (readyAt + end) woken) held staying watching) readyMark woken) (standingAt + d) finishedMark
 
 unfoldable pub movedMemory : Tables → ℕ → List ℕ → List ℕ
-movedMemory t d m = movedBy m (t .end) (t .held) d (wokenIn t d m) (stayingIn t d m)
+movedMemory t d m = movedBy (sets m watchesAt (renewedIn t d m)) (t .end) (t .held) d (wokenIn t d m) (stayingIn t d m) (watchingIn t d m)
 
--- rule 4: "When a token finishes pipe 0, its waiters, in the order entered, lose that number."
--- Broken where it is no token, where a record in the table is bad, or where the queue goes "past its range"
+-- rule 4: "When a token finishes pipe 0, its waiters, in the order entered, lose that number." Only those that watch it can have none left.
+-- Broken where it is no token, where a record of a token that watches it is bad, or where the queue goes "past its range"
 unfoldable pub releaseOf : Tables → ℕ → List ℕ → Outcome State
 releaseOf t d m =
     mustNot (leb (t .tokens) d) Broken

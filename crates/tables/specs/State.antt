@@ -7,7 +7,7 @@ use lib.ListN.{length, set}
 use lib.Seq.{slice}
 use Rattle.rules.specs.Lists.{all, range}
 use Rattle.tables.specs.declared.Tables.{Tables}
-use Rattle.tables.specs.Layout.{standingAt, deferredAt, readyAt, lent, mostTokens}
+use Rattle.tables.specs.Layout.{standingAt, deferredAt, watchesAt, readyAt, lent, mostTokens}
 
 -- the tables' numbers, and the lent memory
 abbrev pub State : Type 0
@@ -50,6 +50,10 @@ marks m v (t ∷ ts) = marks (set m (standingAt + t) v) v ts
 -- the deferred table, in the order entered
 abbrev pub tableOf : Tables → List ℕ → List ℕ
 tableOf t m = slice deferredAt (deferredAt + t .held) m
+
+-- the watches, in step with it
+abbrev pub watchesOf : Tables → List ℕ → List ℕ
+watchesOf t m = slice watchesAt (watchesAt + t .held) m
 
 -- the ready queue, oldest first
 abbrev pub queueOf : Tables → List ℕ → List ℕ

@@ -1,5 +1,5 @@
 -- Taking a token from the tables in memory.
-use mathlib.Core.List.{List, [], _∷_}
+use mathlib.Core.List.{List, [], _∷_, map}
 use Prim.Native.Nat.{ℕ, _+_, _-_}
 use lib.Dec.{leb, ltb}
 use lib.ListN.{getD, set}
@@ -9,25 +9,32 @@ use Rattle.rules.specs.Sources.{Taken as Outcome, Spoiled, Nothing, Took}
 use Rattle.tables.specs.declared.Tables.{Tables}
 use Rattle.tables.specs.declared.Taken.{Taken}
 use Rattle.tables.specs.declared.Offer.{Offer}
-use Rattle.tables.specs.declared.Test.{Test}
+use Rattle.tables.specs.declared.Hold.{Hold}
 use Rattle.tables.specs.declared.Count.{Count}
-use Rattle.tables.specs.Layout.{standingAt, deferredAt, readyAt, mostTokens, noMark, deferredMark, factsOf}
-use Rattle.tables.specs.Facts.{byTest, freeOf}
+use Rattle.tables.specs.Layout.{standingAt, deferredAt, watchesAt, readyAt, mostTokens, noMark, deferredMark, factsOf}
+use Rattle.tables.specs.Facts.{byHold, newHold}
 use Rattle.tables.specs.State.{State, span, marks}
 
 -- the first of some tokens that is free, or `end` where none is; no answer where a record before it is bad
-unfoldable pub firstFree : (ℕ → Test) → ℕ → List ℕ → Count
-firstFree free end [] = Count.Known end
-firstFree free end (t ∷ ts) =
-    byTest (free t) Count.Unknown (Count.Known t) (firstFree free end ts)
+unfoldable pub firstFree : (ℕ → Hold) → ℕ → List ℕ → Count
+firstFree hold end [] = Count.Known end
+firstFree hold end (t ∷ ts) =
+    byHold (hold t) Count.Unknown (Count.Known t) (λ n. firstFree hold end ts)
 
 -- rule 2: "The line takes again, within the same choice": the first free token from Count on, or N where none is
 unfoldable pub findOf : List ℕ → ℕ → ℕ → Count
-findOf f tokens count = firstFree (freeOf f count) tokens (span count tokens)
+findOf f tokens count = firstFree (newHold f count) tokens (span count tokens)
 
--- rule 2: the tokens from Count up to this one are each "added, as last": they join the table in their order
+-- the watch of a token that is passed over: the number by which it is held (0 where nothing holds it: such a token is not passed over)
+unfoldable pub watchOf : List ℕ → ℕ → ℕ → ℕ
+watchOf f count t = byHold (newHold f count t) 0 0 (λ n. n)
+
+-- rule 2: the tokens from Count up to this one are each "added, as last": they join the table in their order, with their watches
+abbrev pub deferredBy : List ℕ → ℕ → List ℕ → List ℕ → List ℕ
+deferredBy m held passed watches = marks (sets (sets m (deferredAt + held) passed) (watchesAt + held) watches) deferredMark passed
+
 unfoldable pub deferredUpto : Tables → ℕ → List ℕ → List ℕ
-deferredUpto t upto m = marks (sets m (deferredAt + t .held) (span (t .count) upto)) deferredMark (span (t .count) upto)
+deferredUpto t upto m = deferredBy m (t .held) (span (t .count) upto) (map (watchOf (factsOf m) (t .count)) (span (t .count) upto))
 
 -- the tables after it, at a new Count
 abbrev pub withCount : Tables → ℕ → ℕ → Tables

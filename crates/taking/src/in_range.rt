@@ -1,8 +1,9 @@
 // Taking from tables whose numbers are within their ranges.
-use facts::free;
+use facts::new_hold;
 use tables::Count;
 use tables::DEFERRED;
 use tables::DEFERRED_MARK;
+use tables::Hold;
 use tables::NO_MARK;
 use tables::Offer;
 use tables::READY;
@@ -10,15 +11,15 @@ use tables::STANDINGS;
 use tables::TOKENS;
 use tables::Tables;
 use tables::Taken;
-use tables::Test;
+use tables::WATCHES;
 ghost use mathlib.Core.Path.{_≡_};
-ghost use mathlib.Core.List.{List};
+ghost use mathlib.Core.List.{List, map};
 ghost use Prim.Native.Nat.{ℕ, _+_, _-_, _<_, _≤_};
 ghost use lib.ListN.{length};
 ghost use lib.Seq.{sets};
-ghost use Rattle.tables.specs.Layout.{deferredAt, lent, mostTokens, deferredMark, factsOf};
+ghost use Rattle.tables.specs.Layout.{deferredAt, watchesAt, lent, mostTokens, deferredMark, factsOf};
 ghost use Rattle.tables.specs.State.{InRange, span, marks};
-ghost use Rattle.tables.specs.Taking.{findOf, oldestOf, takeUpto, takeReady, takeOf, takenOf, takenMemory, offeredOf};
+ghost use Rattle.tables.specs.Taking.{findOf, watchOf, deferredBy, oldestOf, takeUpto, takeReady, takeOf, takenOf, takenMemory, offeredOf};
 
 // The first free token from Count on, or N where none is.
 fn find(mem: &[u16], tokens: u16, count: u16) -> Count
@@ -28,10 +29,10 @@ fn find(mem: &[u16], tokens: u16, count: u16) -> Count
 {
     let mut token = count;
     while token < tokens {
-        match free(mem, count, token) {
-            Test::Unsound => return Count::Unknown,
-            Test::Yes => return Count::Known(token),
-            Test::No => token += 1,
+        match new_hold(mem, count, token) {
+            Hold::Unsound => return Count::Unknown,
+            Hold::Free => return Count::Known(token),
+            Hold::By(_) => token += 1,
         }
     }
     Count::Known(tokens)
@@ -51,6 +52,34 @@ fn enter(mem: &mut [u16], at: usize, from: u16, to: u16)
     }
 }
 
+// The number by which a new token is held; 0 where nothing holds it.
+fn watch(mem: &[u16], count: u16, token: u16) -> u16
+    requires { ⌜ (lent ≤ length (now mem)) × (token < mostTokens) ⌝ }
+    ensures { λ r. ⌜ r ≡ watchOf (factsOf (now (mem .entry))) count token ⌝ }
+{
+    match new_hold(mem, count, token) {
+        Hold::Unsound => 0,
+        Hold::Free => 0,
+        Hold::By(number) => number,
+    }
+}
+
+// Enters the watches of the tokens from Count up to `to` in the cells from `at` on.
+fn enter_watches(mem: &mut [u16], at: usize, count: u16, to: u16)
+    requires { ⌜ (count ≤ to) × (to ≤ mostTokens) ⌝ }
+    requires { ⌜ (watchesAt ≤ at) × ((at + (to - count) ≤ lent) × (lent ≤ length (now mem))) ⌝ }
+    ensures { λ _. ⌜ now (mem .exit) ≡ sets (now (mem .entry)) at (map (watchOf (factsOf (now (mem .entry))) count) (span count to)) ⌝ }
+{
+    let mut cell = at;
+    let mut token = count;
+    while token < to {
+        let number = watch(mem, count, token);
+        mem[cell] = number;
+        cell += 1;
+        token += 1;
+    }
+}
+
 // Marks the tokens from `from` up to `to` as deferred.
 fn mark_deferred(mem: &mut [u16], from: u16, to: u16)
     requires { ⌜ (from ≤ to) × (to ≤ mostTokens) ⌝ }
@@ -64,13 +93,14 @@ fn mark_deferred(mem: &mut [u16], from: u16, to: u16)
     }
 }
 
-// Defers the tokens from Count up to `upto`.
+// Defers the tokens from Count up to `upto`. Their watches go by the standings as they were, so these are changed last.
 fn defer(mem: &mut [u16], count: u16, held: u16, upto: u16)
     requires { ⌜ (count ≤ upto) × (upto ≤ mostTokens) ⌝ }
     requires { ⌜ (held + (upto - count) ≤ mostTokens) × (lent ≤ length (now mem)) ⌝ }
-    ensures { λ _. ⌜ now (mem .exit) ≡ marks (sets (now (mem .entry)) (deferredAt + held) (span count upto)) deferredMark (span count upto) ⌝ }
+    ensures { λ _. ⌜ now (mem .exit) ≡ deferredBy (now (mem .entry)) held (span count upto) (map (watchOf (factsOf (now (mem .entry))) count) (span count upto)) ⌝ }
 {
     enter(mem, DEFERRED + (held as usize), count, upto);
+    enter_watches(mem, WATCHES + (held as usize), count, upto);
     mark_deferred(mem, count, upto);
 }
 

@@ -312,7 +312,7 @@ fn refused_openings() -> Outcome {
     let mut cut_short = with_field(file.clone(), START, start as u16 - 2);
     cut_short.drain(start - 2..start);
     // This plan lists 8,192 numbers.
-    let mut crowded = plans::long_deferred();
+    let mut crowded = plans::long_deferred(4096);
     crowded.records[0].1.insert(0, 3000);
 
     let files = [

@@ -63,11 +63,29 @@ pub fn every_third(tokens: u16) -> Plan {
     wide(tokens, deferred.map(|t| (t, vec![t + 2, t + 9])).collect())
 }
 
-/// 2,048 tokens wait for four each of the last 128, 8,192 numbers in all, so that they stay
-/// deferred till nearly all others have passed.
-pub fn long_deferred() -> Plan {
-    let list = |t: u16| (0..4).map(|k| 3968 + (4 * t + k) % 128).collect();
-    wide(4096, (0..2048).map(|t| (t, list(t))).collect())
+/// The first half of the tokens wait for four each of the last 32nd, so that they stay deferred till
+/// nearly all others have passed. With 4,096 tokens that is 8,192 numbers in all.
+pub fn long_deferred(tokens: u16) -> Plan {
+    let last = tokens / 32;
+    let list = |t: u16| (0..4).map(|k| tokens - last + (4 * t + k) % last).collect();
+    wide(tokens, (0..tokens / 2).map(|t| (t, list(t))).collect())
+}
+
+/// Every token but the last waits for the one after it: the last lets all others in, backwards.
+pub fn chain(tokens: u16) -> Plan {
+    wide(tokens, (0..tokens - 1).map(|t| (t, vec![t + 1])).collect())
+}
+
+/// Each token of the first half waits for its own one of the second, so that these let them in one by
+/// one, the oldest first.
+pub fn one_by_one(tokens: u16) -> Plan {
+    let half = tokens / 2;
+    wide(tokens, (0..half).map(|t| (t, vec![half + t])).collect())
+}
+
+/// The same tokens and records on one pipe and one line: every second choice finishes pipe 0.
+pub fn narrow(plan: Plan) -> Plan {
+    Plan { pipes: vec![SERIAL], lines: 1, ..plan }
 }
 
 /// Chance with a fixed seed.

@@ -36,7 +36,7 @@ more-tokens few many h (r ∷ rs) each = (
 )
 
 -- the records of a valid plan fit the part of the memory that is theirs
-pub fits : {p : Plan} → Valid p → length (recordsFields (p .records)) ≤ 16384
+pub fits : {p : Plan} → Valid p → length (recordsFields (p .records)) ≤ 12288
 fits {p} valid = omega (
   arith,
   length-fields (p .records),

@@ -14,25 +14,11 @@ use lib.Seq.{sets, sets-eq, drop-at, set-append-left, getD-set-same, getD-set-ot
 use Rattle.rules.specs.Lists.{if, table}
 use Rattle.rules.proofs.lists.Tests.{by-test}
 use Rattle.rules.proofs.lists.ListTables.{getD-table, length-table}
-use Rattle.fields.specs.Bytes.{fields, fieldBytes}
-use Rattle.plan.specs.Plan.{Record, ValidRecord, AscendingFrom, recordsBytes}
+use Rattle.plan.specs.Plan.{Record, ValidRecord, AscendingFrom}
 use Rattle.rules.specs.Lists.{Every}
-use Rattle.plan.proofs.CompleteParts.{length-records}
-use Rattle.fields.proofs.Fields.{joined}
 use Rattle.loading.specs.Plans.{filledUp}
-use Rattle.loading.specs.Layout.{recordFields, recordsFields, placeOf, zeros, laidFacts, laidOut, Spells, pointed}
-use Rattle.loading.proofs.memory_laid.LayoutLaws.{length-fields, length-zeros, length-filled, zeros-at}
-
--- the fields of records' bytes are those of the records
-fields-append : (ns s : List ℕ) → fields (fieldBytes ns ++ s) ≡ ns ++ fields s
-unfolding fields fieldBytes
-fields-append [] s = refl
-fields-append (n ∷ ns) s = rw (joined n, fields-append ns s)
-
-fields-are : (rs : List Record) → fields (recordsBytes rs) ≡ recordsFields rs
-unfolding recordsBytes recordsFields fields
-fields-are [] = refl
-fields-are (r ∷ rs) = fields-append (recordFields r) (recordsBytes rs) ∙ ap (λ (l : List ℕ). recordFields r ++ l) (fields-are rs)
+use Rattle.loading.specs.Layout.{recordsFields, placeOf, zeros, laidFacts, laidOut, Spells, pointed}
+use Rattle.loading.proofs.memory_laid.LayoutLaws.{length-zeros, length-filled, zeros-at}
 
 -- runs of zeros
 zeros-append : (a b : ℕ) → zeros a ++ zeros b ≡ zeros (a + b)
@@ -65,7 +51,7 @@ if-zero n = by-test (eqb n 0) (λ e. rw e (sym (eqb-true n 0 e))) (λ e. rw e)
 -- the places of the tokens, marked in a table
 marksIn : List ℕ → ℕ → List Record → List ℕ
 marksIn t from [] = t
-marksIn t from (r ∷ rs) = marksIn (set t (r .token) (from + 1)) (from + (2 + length (r .numbers))) rs
+marksIn t from (r ∷ rs) = marksIn (set t (r .token) (from + 1)) (from + (1 + length (r .numbers))) rs
 
 length-marks : (t : List ℕ) (from : ℕ) (rs : List Record) → length (marksIn t from rs) ≡ length t
 unfolding marksIn
@@ -78,10 +64,10 @@ mark-at : (t : List ℕ) (from floor : ℕ) (rs : List Record) (n : ℕ) → Asc
 unfolding marksIn placeOf
 mark-at t from floor [] n up h = refl
 mark-at t from floor (r ∷ rs) n up h =
-    let later = mark-at (set t (r .token) (from + 1)) (from + (2 + length (r .numbers))) (suc (r .token)) rs n (up .1) (rw length-set h) in
+    let later = mark-at (set t (r .token) (from + 1)) (from + (1 + length (r .numbers))) (suc (r .token)) rs n (up .1) (rw length-set h) in
     by-cases (ℕ-discrete (r .token) n)
     (λ e. later ∙ rw (
-      place-none (from + (2 + length (r .numbers))) (suc (r .token)) rs n (up .1) (omega arith),
+      place-none (from + (1 + length (r .numbers))) (suc (r .token)) rs n (up .1) (omega arith),
       eq-eqb (r .token) n e,
       ne-eqb (suc from) 0 (omega arith),
       add-one from,
@@ -103,11 +89,11 @@ set-behind : (xs ys : List ℕ) (i v : ℕ) → set (xs ++ ys) (length xs + i) v
 set-behind [] ys i v = rw zero-add
 set-behind (x ∷ xs) ys i v = rw suc-add (ap (λ (l : List ℕ). x ∷ l) (set-behind xs ys i v))
 
-set-within : (p t rest : List ℕ) (i v : ℕ) → length p ≡ 16384 → i < length t → set (p ++ (t ++ rest)) (16384 + i) v ≡ p ++ (set t i v ++ rest)
+set-within : (p t rest : List ℕ) (i v : ℕ) → length p ≡ 12288 → i < length t → set (p ++ (t ++ rest)) (12288 + i) v ≡ p ++ (set t i v ++ rest)
 set-within p t rest i v e h = rw (← e) (set-behind p (t ++ rest) i v ∙ ap (λ (l : List ℕ). p ++ l) (set-append-left t rest i v h))
 
 -- marking the places in memory is marking them in its table
-pointed-in : (p t rest : List ℕ) (from : ℕ) (rs : List Record) → length p ≡ 16384 → length t ≡ 4096 → Every (ValidRecord 4096) rs →
+pointed-in : (p t rest : List ℕ) (from : ℕ) (rs : List Record) → length p ≡ 12288 → length t ≡ 4096 → Every (ValidRecord 4096) rs →
     pointed (p ++ (t ++ rest)) from rs ≡ p ++ (marksIn t from rs ++ rest)
 unfolding pointed marksIn
 pointed-in p t rest from [] e f each = refl
@@ -126,24 +112,22 @@ filled-zeros : (n : ℕ) (l : List ℕ) → l ++ zeros (n - length l) ≡ filled
 unfolding zeros
 filled-zeros n l = refl
 
-zeros-parts : (k : ℕ) → k ≤ 16384 → zeros (32768 - k) ≡ zeros (16384 - k) ++ (zeros 4096 ++ (zeros 4096 ++ zeros 8192))
-zeros-parts k h = rw (zeros-append 4096 8192, zeros-append 4096 12288, zeros-append (16384 - k) 16384) (ap zeros (omega arith))
+zeros-parts : (k : ℕ) → k ≤ 12288 → zeros (32768 - k) ≡ zeros (12288 - k) ++ (zeros 4096 ++ (zeros 4096 ++ zeros 12288))
+zeros-parts k h = rw (zeros-append 4096 12288, zeros-append 4096 16384, zeros-append (12288 - k) 20480) (ap zeros (omega arith))
 
 module _ (part m : List ℕ) (rs : List Record) (spells : Spells part rs) where
   -- the memory with the records copied
   abbrev copied-memory : List ℕ
-  copied-memory = sets (zeros 32768 ++ drop 32768 m) 0 (fields part)
+  copied-memory = sets (zeros 32768 ++ drop 32768 m) 0 (recordsFields rs)
 
-  copied-is : copied-memory ≡ filledUp 16384 0 (recordsFields rs) ++ (zeros 4096 ++ (zeros 4096 ++ (zeros 8192 ++ drop 32768 m)))
+  copied-is : copied-memory ≡ filledUp 12288 0 (recordsFields rs) ++ (zeros 4096 ++ (zeros 4096 ++ (zeros 12288 ++ drop 32768 m)))
   copied-is =
       rw (
-        ← spells .bytes,
-        fields-are rs,
         copied 32768 (recordsFields rs) (drop 32768 m) (omega (arith, spells .fits)),
         zeros-parts (length (recordsFields rs)) (spells .fits),
-        ← filled-zeros 16384 (recordsFields rs),
+        ← filled-zeros 12288 (recordsFields rs),
       )
-      (inner (recordsFields rs) (zeros (16384 - length (recordsFields rs))) (zeros 4096) (zeros 4096) (zeros 8192) (drop 32768 m))
+      (inner (recordsFields rs) (zeros (12288 - length (recordsFields rs))) (zeros 4096) (zeros 4096) (zeros 12288) (drop 32768 m))
 
   -- clearing, copying and marking lays the memory out
   laid-out : pointed copied-memory 0 rs ≡ laidOut rs m
@@ -151,16 +135,12 @@ module _ (part m : List ℕ) (rs : List Record) (spells : Spells part rs) where
   laid-out =
       rw (
         copied-is,
-        pointed-in (filledUp 16384 0 (recordsFields rs)) (zeros 4096) (zeros 4096 ++ (zeros 8192 ++ drop 32768 m)) 0 rs
-            (length-filled 16384 0 (recordsFields rs) (spells .fits)) (length-zeros 4096) (spells .each),
+        pointed-in (filledUp 12288 0 (recordsFields rs)) (zeros 4096) (zeros 4096 ++ (zeros 12288 ++ drop 32768 m)) 0 rs
+            (length-filled 12288 0 (recordsFields rs) (spells .fits)) (length-zeros 4096) (spells .each),
         places-are rs (spells .ascending) 4096,
       )
-      (outer (filledUp 16384 0 (recordsFields rs)) (table 4096 (placeOf 0 rs)) (zeros 4096) (zeros 8192) (drop 32768 m))
+      (outer (filledUp 12288 0 (recordsFields rs)) (table 4096 (placeOf 0 rs)) (zeros 4096) (zeros 12288) (drop 32768 m))
 
-  pub laid-by : {cleared stored-in marked : List ℕ} → cleared ≡ zeros 32768 ++ drop 32768 m → stored-in ≡ sets cleared 0 (fields part) →
+  pub laid-by : {cleared stored-in marked : List ℕ} → cleared ≡ zeros 32768 ++ drop 32768 m → stored-in ≡ sets cleared 0 (recordsFields rs) →
       marked ≡ pointed stored-in 0 rs → marked ≡ laidOut rs m
-  laid-by c s e = e ∙ ap (λ (x : List ℕ). pointed x 0 rs) (s ∙ ap (λ (x : List ℕ). sets x 0 (fields part)) c) ∙ laid-out
-
-  -- the records' bytes are no more than the memory
-  pub part-short : length part ≤ 32768
-  part-short = omega (arith, ap length (spells .bytes), length-records rs, length-fields rs, spells .fits)
+  laid-by c s e = e ∙ ap (λ (x : List ℕ). pointed x 0 rs) (s ∙ ap (λ (x : List ℕ). sets x 0 (recordsFields rs)) c) ∙ laid-out

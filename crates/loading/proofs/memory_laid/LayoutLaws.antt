@@ -1,7 +1,7 @@
 -- How long the parts of the laid-out memory are, and what its zeros are.
 use mathlib.Core.Path.{_≡_, refl}
 use mathlib.Core.List.{List, [], _∷_}
-use Prim.Native.Nat.{ℕ, _+_, _*_, _≤_}
+use Prim.Native.Nat.{ℕ, _+_, _≤_}
 use native.Mathlib.Omega.{arith}
 use native.Mathlib.Decide.{decLt}
 use mathlib.Core.Logic.{by-cases}
@@ -11,7 +11,7 @@ use Rattle.loading.specs.Plans.{filledUp}
 use Rattle.loading.specs.Layout.{recordFields, recordsFields, zeros}
 
 -- how many fields the records have
-pub length-fields : (rs : List Record) → length (recordsFields rs) ≡ 2 * length rs + total rs
+pub length-fields : (rs : List Record) → length (recordsFields rs) ≡ length rs + total rs
 unfolding recordsFields total
 length-fields [] = refl
 length-fields (r ∷ rs) = omega (arith, length-append (recordFields r) (recordsFields rs), length-fields rs)

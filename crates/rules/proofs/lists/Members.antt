@@ -104,32 +104,7 @@ unfolding keep has
 keep-same p q [] h = refl
 keep-same p q (a ∷ l) h = rw (h a (rw (eq-eqb a a refl)), keep-same p q l (λ n e. h n (rw e (if-same (eqb a n) true))))
 
--- where one test holds of some element and a second of none, a third does that holds wherever the first holds without the second
-pub any-third : {A : Type 0} (p q r : A → Bool) → ((a : A) → p a ≡ true → q a ≡ false → r a ≡ true) →
-    (l : List A) → any p l ≡ true → any q l ≡ false → any r l ≡ true
-unfolding any
-any-third p q r h [] e f = absurd (true≢false (sym e))
-any-third p q r h (a ∷ l) e f = go (p a) (q a) (r a) (h a) (any-third p q r h l) e f
-  where
-    go : (x y z : Bool) → (x ≡ true → y ≡ false → z ≡ true) → (any p l ≡ true → any q l ≡ false → any r l ≡ true)
-        → if x true (any p l) ≡ true → if y true (any q l) ≡ false → if z true (any r l) ≡ true
-    go x true z h later e f = absurd (true≢false f)
-    go x false true h later e f = refl
-    go true false false h later e f = absurd (true≢false (sym (h refl refl)))
-    go false false false h later e f = later e f
-
 pub length-range : (i k : ℕ) → length (range i k) ≡ k
 unfolding range
 length-range i zero = refl
 length-range i (suc k) = ap suc (length-range (suc i) k)
-
--- the elements that pass and those that do not are all
-pub keep-all : {A : Type 0} (p : A → Bool) (l : List A) → length (keep p l) + length (keep (λ a. not (p a)) l) ≡ length l
-unfolding keep
-keep-all p [] = refl
-keep-all p (a ∷ l) = go (p a) (keep-all p l)
-  where
-    go : (b : Bool) → length (keep p l) + length (keep (λ a. not (p a)) l) ≡ length l
-        → length (if b (a ∷ keep p l) (keep p l)) + length (if (not b) (a ∷ keep (λ a. not (p a)) l) (keep (λ a. not (p a)) l)) ≡ suc (length l)
-    go true e = omega arith
-    go false e = omega arith

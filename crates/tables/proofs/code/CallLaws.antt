@@ -10,12 +10,12 @@ use Rattle.tables.specs.declared.Tables.{Tables}
 use Rattle.tables.specs.declared.Taken.{Taken}
 use Rattle.tables.specs.declared.Released.{Released}
 use Rattle.tables.specs.declared.Offer.{Offer}
-use Rattle.tables.specs.declared.Test.{Test}
-use Rattle.tables.specs.Facts.{freeOf, wakesOf}
+use Rattle.tables.specs.declared.Hold.{Hold}
+use Rattle.tables.specs.Facts.{newHold, leftHold}
 use Rattle.tables.specs.State.{InRange, soundOf}
 use Rattle.tables.specs.Taking.{takeOf, takenOf, takenMemory, offeredOf}
 use Rattle.tables.specs.Releasing.{releaseOf, releasedOf, releasedMemory}
-use Rattle.tables.specs.Calls.{safeFree, safeWakes, safeTake, safeRelease}
+use Rattle.tables.specs.Calls.{safeNewHold, safeLeftHold, safeTake, safeRelease}
 use Rattle.tables.proofs.memory.Ranges.{sound-range}
 
 module _ (t : Tables) (m : List ℕ) {r : Bool} (told : r ≡ soundOf (t, m)) where
@@ -56,31 +56,31 @@ module _ (t : Tables) (m : List ℕ) {r : Bool} (told : r ≡ soundOf (t, m)) wh
   unfolding safeRelease releasedOf releasedMemory
   releases-none d e = rw (← told, e) (refl, refl)
 
--- the answers about one token
+-- what holds one token
 module _ (m : List ℕ) (count t : ℕ) where
-  pub free-few : length m < 32768 → Test.Unsound ≡ safeFree m count t
-  unfolding safeFree
-  free-few h = rw (lt-leb 32768 (length m) h)
+  pub new-few : length m < 32768 → Hold.Unsound ≡ safeNewHold m count t
+  unfolding safeNewHold
+  new-few h = rw (lt-leb 32768 (length m) h)
 
   module _ (whole : 32768 ≤ length m) where
-    pub free-above : 4096 ≤ t → Test.Unsound ≡ safeFree m count t
-    unfolding safeFree
-    free-above h = rw (le-leb 32768 (length m) whole, le-ltb t 4096 h)
+    pub new-above : 4096 ≤ t → Hold.Unsound ≡ safeNewHold m count t
+    unfolding safeNewHold
+    new-above h = rw (le-leb 32768 (length m) whole, le-ltb t 4096 h)
 
-    pub free-is : t < 4096 → safeFree m count t ≡ freeOf (take 24576 m) count t
-    unfolding safeFree
-    free-is h = rw (le-leb 32768 (length m) whole, lt-ltb t 4096 h)
+    pub new-is : t < 4096 → safeNewHold m count t ≡ newHold (take 20480 m) count t
+    unfolding safeNewHold
+    new-is h = rw (le-leb 32768 (length m) whole, lt-ltb t 4096 h)
 
 module _ (m : List ℕ) (tokens d t : ℕ) where
-  pub wakes-few : length m < 32768 → Test.Unsound ≡ safeWakes m tokens d t
-  unfolding safeWakes
-  wakes-few h = rw (lt-leb 32768 (length m) h)
+  pub left-few : length m < 32768 → Hold.Unsound ≡ safeLeftHold m tokens d t
+  unfolding safeLeftHold
+  left-few h = rw (lt-leb 32768 (length m) h)
 
   module _ (whole : 32768 ≤ length m) where
-    pub wakes-above : 4096 < tokens → Test.Unsound ≡ safeWakes m tokens d t
-    unfolding safeWakes
-    wakes-above h = rw (le-leb 32768 (length m) whole, lt-leb tokens 4096 h)
+    pub left-above : 4096 < tokens → Hold.Unsound ≡ safeLeftHold m tokens d t
+    unfolding safeLeftHold
+    left-above h = rw (le-leb 32768 (length m) whole, lt-leb tokens 4096 h)
 
-    pub wakes-is : tokens ≤ 4096 → safeWakes m tokens d t ≡ wakesOf (take 24576 m) tokens d t
-    unfolding safeWakes
-    wakes-is h = rw (le-leb 32768 (length m) whole, le-leb tokens 4096 h)
+    pub left-is : tokens ≤ 4096 → safeLeftHold m tokens d t ≡ leftHold (take 20480 m) tokens d t
+    unfolding safeLeftHold
+    left-is h = rw (le-leb 32768 (length m) whole, le-leb tokens 4096 h)

@@ -1,169 +1,232 @@
 -- The passes of a release, one after the other: together they leave the memory of `movedMemory`.
-use mathlib.Core.Path.{_≡_, refl, sym, ap, ap₂, _∙_}
-use mathlib.Core.Bool.{Bool, true, false, not}
-use mathlib.Core.List.{List, [], _∷_}
-use Prim.Native.Nat.{ℕ, suc, _+_, _-_, _<_, _≤_}
+use mathlib.Core.Path.{_≡_, refl, sym, ap, ap₂, subst, _∙_}
+use mathlib.Core.Bool.{true, false, not}
+use mathlib.Core.List.{List, []}
+use Prim.Native.Nat.{ℕ, _+_, _-_, _<_, _≤_}
 use native.Mathlib.Omega.{arith}
 use native.Mathlib.Nat.{add-zero}
-use borrow.Author.Tests.{leb-false}
-use lib.Dec.{leb}
+use lib.Dec.{eqb}
 use lib.ListN.{length, set, take, drop, replicate, length-replicate}
 use lib.Seq.{sets, slice, length-sets, length-slice}
-use Rattle.rules.specs.Lists.{if, keep, Below}
+use Rattle.rules.specs.Lists.{Below}
+use Rattle.rules.proofs.lists.Members.{below-mono, below-keep}
 use Rattle.tables.specs.declared.Tables.{Tables}
-use Rattle.tables.specs.declared.Test.{Test}
-use Rattle.tables.specs.Facts.{wakesOf}
-use Rattle.tables.specs.State.{InRange, marks, tableOf}
-use Rattle.tables.specs.Releasing.{isYes, wokenOf, stayingOf, wokenIn, stayingIn, movedBy, movedTables, movedMemory}
-use Rattle.tables.proofs.memory.Cells.{take-sets, drop-sets, slice-before, slice-from, slice-sets, sets-slice}
-use Rattle.rules.proofs.lists.Tests.{by-test}
-
--- at most all elements pass a test, and what a test implies holds of all that pass
-keep-length : {A : Type 0} (p : A → Bool) (l : List A) → length (keep p l) ≤ length l
-unfolding keep
-keep-length p [] = omega arith
-keep-length p (a ∷ l) = go (p a) (keep-length p l)
-  where
-    go : (b : Bool) → length (keep p l) ≤ length l → length (if b (a ∷ keep p l) (keep p l)) ≤ suc (length l)
-    go true h = omega arith
-    go false h = omega arith
-
-keep-most : {A : Type 0} (p : A → Bool) (l : List A) {k : ℕ} → length l ≡ k → length (keep p l) ≤ k
-keep-most p l h = omega (arith, keep-length p l)
-
-keep-below : (n : ℕ) (p : ℕ → Bool) → ((t : ℕ) → p t ≡ true → t < n) → (l : List ℕ) → Below n (keep p l)
-unfolding keep
-keep-below n p h [] = tt
-keep-below n p h (a ∷ l) = go (p a) refl (keep-below n p h l)
-  where
-    go : (b : Bool) → p a ≡ b → Below n (keep p l) → Below n (if b (a ∷ keep p l) (keep p l))
-    go true e r = (h a e, r)
-    go false e r = r
-
--- where no element passes a test, all are left
-keep-none : {A : Type 0} (p : A → Bool) (l : List A) → length (keep p l) ≡ 0 → (keep p l ≡ []) × (keep (λ a. not (p a)) l ≡ l)
-unfolding keep
-keep-none p [] h = (refl, refl)
-keep-none p (a ∷ l) h = by-test (p a)
-    (λ e. absurd (omega (arith, rw e at h)))
-    (λ e. let r = keep-none p l (rw e at h) in rw e (r .0, ap (λ x. a ∷ x) (r .1)))
-
--- a token that wakes is below N
-wakes-below : (f : List ℕ) (tokens d t : ℕ) → isYes (wakesOf f tokens d t) ≡ true → t < tokens
-unfolding wakesOf
-wakes-below f tokens d t = go (leb tokens t) refl _
-  where
-    go : (b : Bool) → leb tokens t ≡ b → (x : Test) → isYes (if b Test.Unsound x) ≡ true → t < tokens
-    go true e x h = let z : _≡_ {A = ℕ} 0 1 = cc in omega arith
-    go false e x h = leb-false tokens t e
-
--- the number of those that stay fits 16 bits
-pub held-fits : {kept held : ℕ} → kept ≤ 24576 + held → held ≤ 4096 → kept - 24576 < 65536
-held-fits low most = omega arith
+use Rattle.tables.specs.declared.Hold.{Hold}
+use Rattle.tables.specs.declared.Released.{Released}
+use Rattle.tables.specs.Facts.{leftHold}
+use Rattle.tables.specs.State.{InRange, marks, tableOf, watchesOf}
+use Rattle.tables.specs.Releasing.{isFree, pick, siftedFrom, renewedIn, watchersIn, wokenIn, stayingIn, watchingIn, unsoundIn, closedBy, movedBy, movedTables, movedMemory, releaseOf, Next}
+use Rattle.tables.proofs.memory.Cells.{drop-sets, slice-before, slice-sets, sets-slice}
+use Rattle.tables.proofs.memory.MemoryLaws.{slice-same}
+use Rattle.tables.proofs.memory.FactsLaws.{left-by, left-low}
+use Rattle.tables.proofs.memory.PickLaws.{pick-most, pick-same, pick-none, length-new, new-none, still-watching, watching-below}
+use Rattle.tables.proofs.code.ReleasingLaws.{Gives, watchers-skip, sifted-end, tally-nobody, release-moved}
 
 -- nothing moves where none wakes and all stay, over plain variables: the lists of a release are long to compare
 same-tables : (t : Tables) {woken staying : ℕ} → woken ≡ 0 → staying ≡ t .held
     → t ≡ record { tokens = t .tokens; count = t .count; first = t .first; end = t .end + woken; held = staying }
 same-tables t none all = rw (none, all, add-zero (t .end))
 
-same-memory : (m : List ℕ) (end held d : ℕ) {woken staying : List ℕ} → 24576 + held ≤ length m → woken ≡ [] → staying ≡ slice 24576 (24576 + held) m
-    → length staying ≡ held → set m (20480 + d) 3 ≡ movedBy m end held d woken staying
+same-memory : (m : List ℕ) (end held d : ℕ) {woken staying watching : List ℕ} → held ≤ 4096 → 32768 ≤ length m → woken ≡ []
+    → staying ≡ slice 20480 (20480 + held) m → watching ≡ slice 24576 (24576 + held) m → length staying ≡ held
+    → set m (16384 + d) 3 ≡ movedBy m end held d woken staying watching
 unfolding marks
-same-memory m end held d inside none all long =
+same-memory m end held d most whole none all kept long =
     let gone : held - held ≡ 0 = omega arith in
-    rw (none, long, gone, all, sets-slice m 24576 held inside)
+    rw (none, long, gone, all, kept, sets-slice m 20480 held (omega arith), sets-slice m 24576 held (omega arith))
 
 module _ (t : Tables) (d : ℕ) (m : List ℕ) (ok : InRange t) (whole : 32768 ≤ length m) where
-  table-inside : 24576 + t .held ≤ length m
-  table-inside = omega (arith, ok .held)
-
   table-length : length (tableOf t m) ≡ t .held
-  table-length = length-slice 24576 (24576 + t .held) m table-inside ∙ omega arith
+  table-length = length-slice 20480 (20480 + t .held) m (omega (arith, ok .held)) ∙ omega arith
+
+  watches-length : length (watchesOf t m) ≡ t .held
+  watches-length = length-slice 24576 (24576 + t .held) m (omega (arith, ok .held)) ∙ omega arith
+
+  pub renewed-length : length (renewedIn t d m) ≡ t .held
+  renewed-length = length-new (leftHold (take 20480 m) (t .tokens) d) d (tableOf t m) (watchesOf t m) (watches-length ∙ sym table-length) ∙ table-length
+
+  in-step : length (renewedIn t d m) ≡ length (tableOf t m)
+  in-step = renewed-length ∙ sym table-length
 
   pub staying-length : length (stayingIn t d m) ≤ t .held
-  unfolding stayingOf
-  staying-length = keep-most (λ n. not (isYes (wakesOf (take 24576 m) (t .tokens) d n))) (tableOf t m) table-length
+  staying-length = omega (arith, pick-most (λ w. not (eqb w d)) (tableOf t m) (renewedIn t d m), table-length)
 
-  pub woken-below : Below 4096 (wokenIn t d m)
-  unfolding wokenOf
-  woken-below = keep-below 4096 (λ n. isYes (wakesOf (take 24576 m) (t .tokens) d n))
-      (λ n h. omega (arith, wakes-below (take 24576 m) (t .tokens) d n h)) (tableOf t m)
+  pub even : length (watchingIn t d m) ≡ length (stayingIn t d m)
+  even = pick-same (λ w. not (eqb w d)) (renewedIn t d m) (tableOf t m) (renewedIn t d m) in-step
 
-  -- where no token wakes nothing moves, and the finished token has its new standing
-  module _ (asleep : length (wokenIn t d m) ≡ 0) where
-    woken-none : wokenIn t d m ≡ []
-    unfolding wokenOf
-    woken-none = keep-none (λ n. isYes (wakesOf (take 24576 m) (t .tokens) d n)) (tableOf t m) asleep .0
+  abbrev hold : ℕ → Hold
+  hold = leftHold (take 20480 m) (t .tokens) d
 
-    staying-all : stayingIn t d m ≡ tableOf t m
-    unfolding wokenOf stayingOf
-    staying-all = keep-none (λ n. isYes (wakesOf (take 24576 m) (t .tokens) d n)) (tableOf t m) asleep .1
+  pub woken-below : unsoundIn t d m ≡ false → Below 4096 (wokenIn t d m)
+  woken-below sound =
+      subst (Below 4096) (still-watching hold d (λ n v e. left-by (take 20480 m) (t .tokens) d n v e) (tableOf t m) (watchesOf t m) sound)
+      (below-keep 4096 (λ n. isFree (hold n)) (watchersIn t d m)
+      (below-mono (watchersIn t d m) (ok .tokens) (watching-below hold d (t .tokens) (λ n h. left-low (take 20480 m) (t .tokens) d n h) (tableOf t m) (watchesOf t m) sound)))
 
-    staying-held : length (stayingIn t d m) ≡ t .held
-    staying-held = ap length staying-all ∙ table-length
+  -- the memory with the watches renewed: its table, and its watches
+  module _ {m₁ : List ℕ} (renewed : m₁ ≡ sets m 24576 (renewedIn t d m)) where
+    renewed-table : slice 20480 (20480 + t .held) m₁ ≡ tableOf t m
+    renewed-table = ap (slice 20480 (20480 + t .held)) renewed ∙ slice-before (renewedIn t d m) m 24576 20480 (20480 + t .held) (omega (arith, ok .held))
 
-    pub none-tables : t ≡ movedTables t d m
+    renewed-watches : slice 24576 (24576 + t .held) m₁ ≡ renewedIn t d m
+    renewed-watches =
+        let ends : 24576 + t .held ≡ 24576 + length (renewedIn t d m) = omega (arith, renewed-length) in
+        ap (slice 24576 (24576 + t .held)) renewed ∙ ap (λ e. slice 24576 e (sets m 24576 (renewedIn t d m))) ends
+        ∙ slice-sets (renewedIn t d m) m 24576 (omega (arith, renewed-length, ok .held))
+
+    woken-same : siftedFrom true m₁ 20480 d 0 (t .held) ≡ wokenIn t d m
+    woken-same = ap₂ (λ xs ws. pick (λ w. eqb w d) xs ws) renewed-table renewed-watches
+
+    staying-same : siftedFrom false m₁ 20480 d 0 (t .held) ≡ stayingIn t d m
+    staying-same = ap₂ (λ xs ws. pick (λ w. not (eqb w d)) xs ws) renewed-table renewed-watches
+
+    watching-same : siftedFrom false m₁ 24576 d 0 (t .held) ≡ watchingIn t d m
+    watching-same = ap₂ (λ xs ws. pick (λ w. not (eqb w d)) xs ws) renewed-watches renewed-watches
+
+    -- those that still watch the token are the woken
+    pub woken-allowed : unsoundIn t d m ≡ false → Below 4096 (siftedFrom true m₁ 20480 d 0 (t .held))
+    woken-allowed sound = rw woken-same (woken-below sound)
+
+    pub woken-number : {n : ℕ} → n ≡ length (wokenIn t d m) → n ≡ length (siftedFrom true m₁ 20480 d 0 (t .held))
+    woken-number n-is = n-is ∙ sym (ap length woken-same)
+
+    pub tables-are : {n : ℕ} → n ≡ length (wokenIn t d m)
+        → _≡_ {A = Tables} (record { tokens = t .tokens; count = t .count; first = t .first; end = t .end + n; held = length (siftedFrom false m₁ 20480 d 0 (t .held)) })
+        (movedTables t d m)
     unfolding movedTables
-    none-tables = same-tables t asleep staying-held
+    tables-are n-is = rw (n-is, staying-same)
 
-    pub none-memory : set m (20480 + d) 3 ≡ movedMemory t d m
+    pub memory-is : {m′ : List ℕ}
+        → m′ ≡ movedBy m₁ (t .end) (t .held) d (siftedFrom true m₁ 20480 d 0 (t .held)) (siftedFrom false m₁ 20480 d 0 (t .held)) (siftedFrom false m₁ 24576 d 0 (t .held))
+        → m′ ≡ movedMemory t d m
     unfolding movedMemory
-    none-memory = same-memory m (t .end) (t .held) d table-inside woken-none staying-all staying-held
+    memory-is e = e ∙ parts woken-same staying-same watching-same ∙ ap (λ l. movedBy l (t .end) (t .held) d (wokenIn t d m) (stayingIn t d m) (watchingIn t d m)) renewed
+      where
+        parts : {w w′ s s′ v v′ : List ℕ} → w ≡ w′ → s ≡ s′ → v ≡ v′ → movedBy m₁ (t .end) (t .held) d w s v ≡ movedBy m₁ (t .end) (t .held) d w′ s′ v′
+        parts e f g = rw (e, f, g)
 
-  module _ {m₁ : List ℕ} (queued : m₁ ≡ sets m (28672 + t .end) (wokenIn t d m)) where
-    -- the facts and the deferred table are still as they were
-    pub staying-same : stayingOf (wakesOf (take 24576 m₁) (t .tokens) d) (slice 24576 (24576 + t .held) m₁) ≡ stayingIn t d m
-    staying-same =
-        ap₂ (λ f l. stayingOf (wakesOf f (t .tokens) d) l)
-        (ap (take 24576) queued ∙ take-sets (wokenIn t d m) m (28672 + t .end) 24576 (omega arith))
-        (ap (slice 24576 (24576 + t .held)) queued
-        ∙ slice-before (wokenIn t d m) m (28672 + t .end) 24576 (24576 + t .held) (omega (arith, ok .held)))
+    -- where no token wakes nothing moves, and the finished token has its new standing
+    module _ (asleep : length (wokenIn t d m) ≡ 0) where
+      table-stays : (wokenIn t d m ≡ []) × (stayingIn t d m ≡ tableOf t m)
+      table-stays = pick-none (λ w. eqb w d) (tableOf t m) (renewedIn t d m) in-step asleep
 
-    module _ {kept : ℕ} (ends : kept ≡ 24576 + length (stayingOf (wakesOf (take 24576 m₁) (t .tokens) d) (slice 24576 (24576 + t .held) m₁))) where
-      pub kept-is : kept ≡ 24576 + length (stayingIn t d m)
-      kept-is = rw staying-same at ends
+      watches-stay : watchingIn t d m ≡ renewedIn t d m
+      watches-stay =
+          pick-none (λ w. eqb w d) (renewedIn t d m) (renewedIn t d m) refl (pick-same (λ w. eqb w d) (renewedIn t d m) (tableOf t m) (renewedIn t d m) in-step ∙ asleep) .1
 
-      pub kept-within : (24576 ≤ kept) × (kept ≤ 24576 + t .held)
-      kept-within = omega (arith, kept-is, staying-length)
+      staying-held : length (stayingIn t d m) ≡ t .held
+      staying-held = ap length (table-stays .1) ∙ table-length
 
-      module _ {m₂ m₃ : List ℕ}
-          (closed : m₂ ≡ sets m₁ 24576 (stayingOf (wakesOf (take 24576 m₁) (t .tokens) d) (slice 24576 (24576 + t .held) m₁)))
-          (cleared : m₃ ≡ sets m₂ kept (replicate (24576 + t .held - kept) 0)) where
-        -- the memory after clearing, from the first
-        cleared-is : m₃ ≡ sets (sets (sets m (28672 + t .end) (wokenIn t d m)) 24576 (stayingIn t d m)) (24576 + length (stayingIn t d m))
-            (replicate (t .held - length (stayingIn t d m)) 0)
-        cleared-is =
-            let zeros : 24576 + t .held - (24576 + length (stayingIn t d m)) ≡ t .held - length (stayingIn t d m) = omega arith in
-            rw (cleared, closed, staying-same, queued, kept-is, zeros)
-
-        -- the cells of the ready queue from its end on hold the woken tokens
-        pub queue-is : {n : ℕ} → n ≡ length (wokenIn t d m) → t .end + n ≤ 4096 → slice (28672 + t .end) (28672 + t .end + n) m₃ ≡ wokenIn t d m
-        queue-is {n} n-is room =
-            let s : List ℕ = stayingIn t d m in
-            let q : List ℕ = sets m (28672 + t .end) (wokenIn t d m) in
-            let k : ℕ = t .held - length s in
-            let same : drop (28672 + t .end) m₃ ≡ drop (28672 + t .end) q =
-            rw cleared-is
-            (drop-sets (replicate k 0) (sets q 24576 s) (24576 + length s) (28672 + t .end) (omega (arith, staying-length, length-replicate {A = ℕ} k 0))
-            ∙ drop-sets s q 24576 (28672 + t .end) (omega (arith, staying-length))) in
-            let long : length q ≡ length m = length-sets m (28672 + t .end) (wokenIn t d m) in
-            let long₃ : length m₃ ≡ length m = rw cleared-is (simp length-sets) in
-            slice-from m₃ (28672 + t .end) n (omega arith)
-            ∙ ap (λ (l : List ℕ). take n l) same
-            ∙ sym (slice-from q (28672 + t .end) n (omega arith))
-            ∙ rw n-is (slice-sets (wokenIn t d m) m (28672 + t .end) (omega arith))
-
-        pub moved-is : {n : ℕ} {m₄ : List ℕ} → n ≡ length (wokenIn t d m) → t .end + n ≤ 4096 → m₄ ≡ marks m₃ 2 (slice (28672 + t .end) (28672 + t .end + n) m₃)
-            → set m₄ (20480 + d) 3 ≡ movedMemory t d m
-        unfolding movedMemory
-        moved-is n-is room marked = rw (marked, queue-is n-is room, cleared-is)
-
-        pub marks-allowed : {n : ℕ} → n ≡ length (wokenIn t d m) → t .end + n ≤ 4096 → Below 4096 (slice (28672 + t .end) (28672 + t .end + n) m₃)
-        marks-allowed n-is room = rw (queue-is n-is room) woken-below
-
-      pub tables-are : {n : ℕ} → n ≡ length (wokenIn t d m)
-          → _≡_ {A = Tables} (record { tokens = t .tokens; count = t .count; first = t .first; end = t .end + n; held = kept - 24576 }) (movedTables t d m)
+      pub none-tables : t ≡ movedTables t d m
       unfolding movedTables
-      tables-are n-is =
-          let h : 24576 + length (stayingIn t d m) - 24576 ≡ length (stayingIn t d m) = omega arith in
-          rw (n-is, kept-is, h)
+      none-tables = same-tables t asleep staying-held
+
+      pub none-memory : set m₁ (16384 + d) 3 ≡ movedMemory t d m
+      unfolding movedMemory
+      none-memory =
+          same-memory m₁ (t .end) (t .held) d (ok .held) (rw (renewed, length-sets m 24576 (renewedIn t d m)) whole) (table-stays .0)
+          (table-stays .1 ∙ sym renewed-table) (watches-stay ∙ sym renewed-watches) staying-held
+          ∙ ap (λ l. movedBy l (t .end) (t .held) d (wokenIn t d m) (stayingIn t d m) (watchingIn t d m)) renewed
+
+  -- where no token watches it all watches are as before
+  module _ (nobody : siftedFrom true m 20480 d 0 (t .held) ≡ []) where
+    pub nobody-renewed : m ≡ sets m 24576 (renewedIn t d m)
+    nobody-renewed =
+        let same : renewedIn t d m ≡ watchesOf t m = new-none hold d (tableOf t m) (watchesOf t m) (watches-length ∙ sym table-length) (ap length nobody) in
+        sym (rw same (sets-slice m 24576 (t .held) (omega (arith, ok .held))))
+
+    pub nobody-woken : length (wokenIn t d m) ≡ 0
+    nobody-woken = ap length (sym (woken-same {m₁ = m} nobody-renewed) ∙ nobody)
+
+  -- a finish that no token watches
+  pub release-nobody : d < t .tokens → {r : ℕ} → Next m d 0 (t .held) r → t .held ≤ r → Gives m (releaseOf t d m) (Released.Passed t) (set m (16384 + d) 3)
+  release-nobody inside next none =
+      let nobody : siftedFrom true m 20480 d 0 (t .held) ≡ [] =
+      watchers-skip m d (t .held) whole (ok .held) next ∙ sifted-end true m 20480 d _ (t .held) (next .upto) none in
+      release-moved t d m inside refl (tally-nobody hold nobody) (omega (arith, ok .end))
+      (none-tables {m₁ = m} (nobody-renewed nobody) (nobody-woken nobody)) (none-memory {m₁ = m} (nobody-renewed nobody) (nobody-woken nobody))
+
+-- closing up: the tokens, their watches, and the freed cells of both
+module _ (m : List ℕ) (d held : ℕ) (whole : 32768 ≤ length m) (most : held ≤ 4096) where
+  pub stay-length : length (siftedFrom false m 20480 d 0 held) ≤ held
+  stay-length = omega
+      (arith, pick-most (λ w. not (eqb w d)) (slice 20480 (20480 + held) m) (slice 24576 (24576 + held) m), length-slice 20480 (20480 + held) m (omega arith))
+
+  pub kept-within : {kept : ℕ} → kept ≡ 20480 + length (siftedFrom false m 20480 d 0 held) → (20480 ≤ kept) × (kept ≤ 20480 + held)
+  kept-within e = omega (arith, stay-length)
+
+  module _ {m₁ : List ℕ} (closed : m₁ ≡ sets m 20480 (siftedFrom false m 20480 d 0 held)) where
+    pub closed-length : length m₁ ≡ length m
+    closed-length = rw closed (length-sets m 20480 (siftedFrom false m 20480 d 0 held))
+
+    watches-kept : slice 24576 (24576 + held) m₁ ≡ slice 24576 (24576 + held) m
+    watches-kept =
+        slice-same m m₁ 24576 24576 (24576 + held)
+        (ap (drop 24576) closed ∙ drop-sets (siftedFrom false m 20480 d 0 held) m 20480 24576 (omega (arith, stay-length)))
+        (omega arith) (omega arith) (omega arith) closed-length
+
+    watching-kept : siftedFrom false m₁ 24576 d 0 held ≡ siftedFrom false m 24576 d 0 held
+    watching-kept = ap (λ ws. pick (λ w. not (eqb w d)) ws ws) watches-kept
+
+    pub closed-up : {kept k : ℕ} {m₂ m₃ m₄ : List ℕ} → kept ≡ 20480 + length (siftedFrom false m 20480 d 0 held) → k ≡ kept - 20480
+        → m₂ ≡ sets m₁ 24576 (siftedFrom false m₁ 24576 d 0 held)
+        → m₃ ≡ sets m₂ kept (replicate (20480 + held - kept) 0) → m₄ ≡ sets m₃ (24576 + k) (replicate (24576 + held - (24576 + k)) 0)
+        → (k ≡ length (siftedFrom false m 20480 d 0 held)) × (m₄ ≡ closedBy m held (siftedFrom false m 20480 d 0 held) (siftedFrom false m 24576 d 0 held))
+    closed-up {kept} {k} kept-is k-is e₂ e₃ e₄ =
+        let n : ℕ = length (siftedFrom false m 20480 d 0 held) in
+        let k-n : k ≡ n = omega arith in
+        let rest : 20480 + held - (20480 + n) ≡ held - n = omega arith in
+        let rest′ : 24576 + held - (24576 + n) ≡ held - n = omega arith in
+        (k-n, rw (e₄, e₃, e₂, k-n, kept-is, rest, rest′, watching-kept, closed))
+
+-- moving the woken, from the memory with the watches renewed
+module _ (m : List ℕ) (end d held : ℕ) (whole : 32768 ≤ length m) (most : held ≤ 4096) {n : ℕ} (n-is : n ≡ length (siftedFrom true m 20480 d 0 held))
+    (room : end + n ≤ 4096) {m₁ : List ℕ} (queued : m₁ ≡ sets m (28672 + end) (siftedFrom true m 20480 d 0 held)) where
+  pub queued-length : length m₁ ≡ length m
+  queued-length = rw queued (length-sets m (28672 + end) (siftedFrom true m 20480 d 0 held))
+
+  queued-slice : (f : ℕ) → f ≤ 24576 → slice f (f + held) m₁ ≡ slice f (f + held) m
+  queued-slice f h = ap (slice f (f + held)) queued ∙ slice-before (siftedFrom true m 20480 d 0 held) m (28672 + end) f (f + held) (omega arith)
+
+  pub queued-staying : siftedFrom false m₁ 20480 d 0 held ≡ siftedFrom false m 20480 d 0 held
+  queued-staying = ap₂ (λ xs ws. pick (λ w. not (eqb w d)) xs ws) (queued-slice 20480 (omega arith)) (queued-slice 24576 (omega arith))
+
+  queued-watching : siftedFrom false m₁ 24576 d 0 held ≡ siftedFrom false m 24576 d 0 held
+  queued-watching = ap (λ ws. pick (λ w. not (eqb w d)) ws ws) (queued-slice 24576 (omega arith))
+
+  module _ {m₂ : List ℕ} (closed : m₂ ≡ closedBy m₁ held (siftedFrom false m₁ 20480 d 0 held) (siftedFrom false m₁ 24576 d 0 held)) where
+    closed-behind : drop 28672 m₂ ≡ drop 28672 m₁
+    closed-behind =
+        let s : List ℕ = siftedFrom false m₁ 20480 d 0 held in
+        let v : List ℕ = siftedFrom false m₁ 24576 d 0 held in
+        let z : List ℕ = replicate (held - length s) 0 in
+        let zeros : length z ≡ held - length s = length-replicate (held - length s) 0 in
+        let short : length s ≤ held = stay-length m₁ d held (omega (arith, queued-length)) most in
+        let narrow : length v ≤ held =
+        omega (
+          arith,
+          pick-most (λ w. not (eqb w d)) (slice 24576 (24576 + held) m₁) (slice 24576 (24576 + held) m₁),
+          length-slice 24576 (24576 + held) m₁ (omega (arith, queued-length)),
+        ) in
+        rw closed
+        (drop-sets z (sets (sets (sets m₁ 20480 s) 24576 v) (20480 + length s) z) (24576 + length s) 28672 (omega arith)
+        ∙ drop-sets z (sets (sets m₁ 20480 s) 24576 v) (20480 + length s) 28672 (omega arith)
+        ∙ drop-sets v (sets m₁ 20480 s) 24576 28672 (omega arith)
+        ∙ drop-sets s m₁ 20480 28672 (omega arith))
+
+    closed-long : length m₂ ≡ length m₁
+    closed-long = rw closed (simp length-sets)
+
+    -- the cells of the ready queue from its end on hold the woken tokens
+    pub queue-is : slice (28672 + end) (28672 + end + n) m₂ ≡ siftedFrom true m 20480 d 0 held
+    queue-is =
+        slice-same m₁ m₂ 28672 (28672 + end) (28672 + end + n) closed-behind (omega arith) (omega arith) (omega (arith, queued-length)) closed-long
+        ∙ ap (slice (28672 + end) (28672 + end + n)) queued
+        ∙ rw n-is (slice-sets (siftedFrom true m 20480 d 0 held) m (28672 + end) (omega arith))
+
+    pub marks-allowed : Below 4096 (siftedFrom true m 20480 d 0 held) → Below 4096 (slice (28672 + end) (28672 + end + n) m₂)
+    marks-allowed low = rw queue-is low
+
+    pub moved-is : {m₃ : List ℕ} → m₃ ≡ marks m₂ 2 (slice (28672 + end) (28672 + end + n) m₂)
+        → set m₃ (16384 + d) 3 ≡ movedBy m end held d (siftedFrom true m 20480 d 0 held) (siftedFrom false m 20480 d 0 held) (siftedFrom false m 24576 d 0 held)
+    moved-is marked = rw (marked, queue-is, closed, queued-staying, queued-watching, queued)

@@ -1,6 +1,6 @@
 -- A token's finish keeps the match between the tables in memory and the rules' tables.
 use mathlib.Core.Path.{_≡_, refl, sym, ap, ap₂, _∙_, fun-ext, subst}
-use mathlib.Core.Bool.{false}
+use mathlib.Core.Bool.{false, not}
 use mathlib.Core.List.{List, _++_}
 use Prim.Native.Nat.{ℕ, _+_, _-_, _<_, _≤_}
 use native.Mathlib.Omega.{arith}
@@ -13,41 +13,75 @@ use Rattle.rules.specs.TakingTokens.{tokensOf}
 use Rattle.rules.specs.TakingTokens as rules
 use Rattle.rules.specs.Sources.{Passed}
 use Rattle.tables.specs.declared.Tables.{Tables}
-use Rattle.tables.specs.Facts.{standingOf, wakesOf}
-use Rattle.tables.specs.State.{State, marks, tableOf}
-use Rattle.tables.specs.Releasing.{isYes, isUnsound, wokenOf, stayingOf, wokenIn, stayingIn, unsoundIn, movedTables, movedMemory, releaseOf}
-use Rattle.tables.specs.Matching.{Recorded, Standing, Match, nobody, only}
-use Rattle.rules.proofs.lists.Members.{keep-all, below-keep, below-mono}
+use Rattle.tables.specs.Facts.{standingOf, leftHold}
+use Rattle.tables.specs.State.{State, marks, tableOf, watchesOf}
+use Rattle.tables.specs.Releasing.{isUnsound, pick, newWatches, renewedIn, wokenIn, stayingIn, watchingIn, unsoundIn, movedTables, movedMemory, releaseOf}
+use Rattle.tables.specs.Matching.{Recorded, Watched, Standing, Match, nobody, only}
+use Rattle.rules.proofs.lists.Members.{below-mono}
 use Rattle.tables.proofs.memory.Cells.{take-less, take-sets, drop-sets, drop-more, slice-before, slice-sets}
 use Rattle.tables.proofs.memory.MemoryLaws.{standing-set, length-marks, take-marks, drop-marks, standing-marks, recorded-kept, slice-append, slice-same}
+use Rattle.tables.proofs.memory.PickLaws.{below-pick, pick-same, pick-all, length-new}
 use Rattle.tables.proofs.matching.StandingLaws.{table-low}
-use Rattle.tables.proofs.matching.RuleReleasing.{finished, woken-are, staying-are, none-unsound, release-standing}
+use Rattle.tables.proofs.matching.RuleReleasing.{finished, woken-are, staying-are, watched-after, none-unsound, release-standing}
 
--- the memory after some tokens joined the ready queue, others closed up, and a token finished
-module _ (m : List ℕ) (whole : 32768 ≤ length m) (end held d : ℕ) (woken staying : List ℕ)
-    (room : end + length woken ≤ 4096) (short : length staying ≤ held) (most : held ≤ 4096) (low : Below 4096 woken) (inside : d < 4096) where
+-- the memory after watches were renewed, some tokens joined the ready queue, others closed up with their watches, and a token finished
+module _ (m : List ℕ) (whole : 32768 ≤ length m) (end held d : ℕ) (renewed woken staying watching : List ℕ) (size : length renewed ≡ held)
+    (room : end + length woken ≤ 4096) (short : length staying ≤ held) (even : length watching ≡ length staying) (most : held ≤ 4096)
+    (low : Below 4096 woken) (inside : d < 4096) where
+  watched : List ℕ
+  watched = sets m 24576 renewed
+
   queued : List ℕ
-  queued = sets m (28672 + end) woken
+  queued = sets watched (28672 + end) woken
+
+  shut : List ℕ
+  shut = sets queued 20480 staying
 
   closed : List ℕ
-  closed = sets queued 24576 staying
+  closed = sets shut 24576 watching
+
+  freed : List ℕ
+  freed = replicate (held - length staying) 0
+
+  halfway : List ℕ
+  halfway = sets closed (20480 + length staying) freed
 
   cleared : List ℕ
-  cleared = sets closed (24576 + length staying) (replicate (held - length staying) 0)
+  cleared = sets halfway (24576 + length staying) freed
 
   readied : List ℕ
   readied = marks cleared 2 woken
 
   moved : List ℕ
-  moved = set readied (20480 + d) 3
+  moved = set readied (16384 + d) 3
+
+  freed-length : length freed ≡ held - length staying
+  unfolding freed
+  freed-length = length-replicate (held - length staying) 0
+
+  watched-length : length watched ≡ length m
+  unfolding watched
+  watched-length = length-sets m 24576 renewed
 
   queued-length : length queued ≡ length m
   unfolding queued
-  queued-length = length-sets m (28672 + end) woken
+  queued-length = length-sets watched (28672 + end) woken ∙ watched-length
+
+  shut-length : length shut ≡ length m
+  unfolding shut
+  shut-length = length-sets queued 20480 staying ∙ queued-length
+
+  closed-length : length closed ≡ length m
+  unfolding closed
+  closed-length = length-sets shut 24576 watching ∙ shut-length
+
+  halfway-length : length halfway ≡ length m
+  unfolding halfway
+  halfway-length = length-sets closed (20480 + length staying) freed ∙ closed-length
 
   cleared-length : length cleared ≡ length m
-  unfolding cleared closed queued
-  cleared-length = simp length-sets
+  unfolding cleared
+  cleared-length = length-sets halfway (24576 + length staying) freed ∙ halfway-length
 
   readied-length : length readied ≡ length m
   unfolding readied
@@ -55,16 +89,19 @@ module _ (m : List ℕ) (whole : 32768 ≤ length m) (end held d : ℕ) (woken s
 
   moved-length : length moved ≡ length m
   unfolding moved
-  moved-length = length-set readied (20480 + d) 3 ∙ readied-length
+  moved-length = length-set readied (16384 + d) 3 ∙ readied-length
 
-  cleared-facts : take 24576 cleared ≡ take 24576 m
-  unfolding cleared closed queued
+  cleared-facts : take 20480 cleared ≡ take 20480 m
+  unfolding cleared halfway closed shut queued watched
   cleared-facts =
-      take-sets (replicate (held - length staying) 0) closed (24576 + length staying) 24576 (omega arith)
-      ∙ take-sets staying queued 24576 24576 (omega arith)
-      ∙ take-sets woken m (28672 + end) 24576 (omega arith)
+      take-sets freed halfway (24576 + length staying) 20480 (omega arith)
+      ∙ take-sets freed closed (20480 + length staying) 20480 (omega arith)
+      ∙ take-sets watching shut 24576 20480 (omega arith)
+      ∙ take-sets staying queued 20480 20480 (omega arith)
+      ∙ take-sets woken watched (28672 + end) 20480 (omega arith)
+      ∙ take-sets renewed m 24576 20480 (omega arith)
 
-  moved-standing : standingOf (take 24576 moved) ≡ finished (standingOf (take 24576 m)) d woken
+  moved-standing : standingOf (take 20480 moved) ≡ finished (standingOf (take 20480 m)) d woken
   unfolding moved readied
   moved-standing =
       fun-ext (λ n.
@@ -72,44 +109,70 @@ module _ (m : List ℕ) (whole : 32768 ≤ length m) (end held d : ℕ) (woken s
       ∙ ap (λ s. if (eqb d n) 3 s)
       (standing-marks cleared 2 woken (rw cleared-length whole) low n ∙ ap (λ l. if (has woken n) 2 (standingOf l n)) cleared-facts))
 
-  moved-records : take 20480 moved ≡ take 20480 m
+  moved-records : take 16384 moved ≡ take 16384 m
   unfolding moved readied
   moved-records =
-      take-set-le 20480 readied (20480 + d) 3 (omega arith)
+      take-set-le 16384 readied (16384 + d) 3 (omega arith)
       ∙ take-marks cleared 2 woken
-      ∙ take-less m cleared 24576 20480 cleared-facts (omega arith)
+      ∙ take-less m cleared 20480 16384 cleared-facts (omega arith)
 
-  moved-tables : drop 24576 moved ≡ drop 24576 cleared
+  moved-tables : drop 20480 moved ≡ drop 20480 cleared
   unfolding moved readied
-  moved-tables = drop-set-lt 24576 readied (20480 + d) 3 (omega arith) ∙ drop-marks cleared 2 woken low
+  moved-tables = drop-set-lt 20480 readied (16384 + d) 3 (omega arith) ∙ drop-marks cleared 2 woken low
 
-  moved-table : slice 24576 (24576 + length staying) moved ≡ staying
-  unfolding cleared closed
+  moved-table : slice 20480 (20480 + length staying) moved ≡ staying
+  unfolding cleared halfway closed shut
   moved-table =
-      slice-same cleared moved 24576 24576 (24576 + length staying) moved-tables (omega arith) (omega arith) (omega (arith, cleared-length))
+      slice-same cleared moved 20480 20480 (20480 + length staying) moved-tables (omega arith) (omega arith) (omega (arith, cleared-length))
       (moved-length ∙ sym cleared-length)
-      ∙ slice-before (replicate (held - length staying) 0) closed (24576 + length staying) 24576 (24576 + length staying) (omega arith)
-      ∙ slice-sets staying queued 24576 (omega (arith, queued-length))
+      ∙ slice-before freed halfway (24576 + length staying) 20480 (20480 + length staying) (omega arith)
+      ∙ slice-before freed closed (20480 + length staying) 20480 (20480 + length staying) (omega arith)
+      ∙ slice-before watching shut 24576 20480 (20480 + length staying) (omega arith)
+      ∙ slice-sets staying queued 20480 (omega (arith, queued-length))
+
+  moved-watches : slice 24576 (24576 + length staying) moved ≡ watching
+  unfolding cleared halfway closed
+  moved-watches =
+      let ends : 24576 + length staying ≡ 24576 + length watching = omega arith in
+      slice-same cleared moved 20480 24576 (24576 + length staying) moved-tables (omega arith) (omega arith) (omega (arith, cleared-length))
+      (moved-length ∙ sym cleared-length)
+      ∙ slice-before freed halfway (24576 + length staying) 24576 (24576 + length staying) (omega arith)
+      ∙ slice-same closed halfway 24576 24576 (24576 + length staying)
+      (drop-sets freed closed (20480 + length staying) 24576 (omega (arith, freed-length)))
+      (omega arith) (omega arith) (omega (arith, closed-length)) (halfway-length ∙ sym closed-length)
+      ∙ ap (λ e. slice 24576 e closed) ends
+      ∙ slice-sets watching shut 24576 (omega (arith, shut-length))
 
   moved-queue : (first : ℕ) → first ≤ end → slice (28672 + first) (28672 + (end + length woken)) moved ≡ slice (28672 + first) (28672 + end) m ++ woken
-  unfolding cleared closed queued
+  unfolding cleared halfway closed shut queued watched
   moved-queue first h =
       let same : drop 28672 moved ≡ drop 28672 queued =
-      drop-more cleared moved 24576 28672 moved-tables (omega arith)
-      ∙ drop-sets (replicate (held - length staying) 0) closed (24576 + length staying) 28672
-      (omega (arith, length-replicate {A = ℕ} (held - length staying) 0))
-      ∙ drop-sets staying queued 24576 28672 (omega arith) in
+      drop-more cleared moved 20480 28672 moved-tables (omega arith)
+      ∙ drop-sets freed halfway (24576 + length staying) 28672 (omega (arith, freed-length))
+      ∙ drop-sets freed closed (20480 + length staying) 28672 (omega (arith, freed-length))
+      ∙ drop-sets watching shut 24576 28672 (omega arith)
+      ∙ drop-sets staying queued 20480 28672 (omega arith) in
       let ends : 28672 + (end + length woken) ≡ 28672 + end + length woken = omega arith in
       slice-same queued moved 28672 (28672 + first) (28672 + (end + length woken)) same (omega arith) (omega arith) (omega (arith, queued-length))
       (moved-length ∙ sym queued-length)
-      ∙ (rw (← ends) at (slice-append woken m (28672 + first) (28672 + end) (omega arith) (omega arith)))
+      ∙ (rw (← ends) at (slice-append woken watched (28672 + first) (28672 + end) (omega arith) (omega (arith, watched-length))))
+      ∙ ap (λ l. l ++ woken)
+      (slice-same m watched 28672 (28672 + first) (28672 + end) (drop-sets renewed m 24576 28672 (omega arith)) (omega arith) (omega arith) (omega arith) watched-length)
 
 module _ (tokens : ℕ) (numbers : ℕ → List ℕ) (a : rules.Tables) (t : Tables) (m : List ℕ) (d : ℕ) (p : Match tokens numbers a (t, m) (only d)) where
-  woken-is : wokenIn t d m ≡ wokenOf (wakesOf (take 24576 m) tokens d) (tokensOf (a .deferred))
-  woken-is = ap₂ (λ n l. wokenOf (wakesOf (take 24576 m) n d) l) (p .size) (p .table)
+  -- the new watches, over the rules' table
+  after : List ℕ
+  after = newWatches (leftHold (take 20480 m) tokens d) d (tokensOf (a .deferred)) (watchesOf t m)
 
-  staying-is : stayingIn t d m ≡ stayingOf (wakesOf (take 24576 m) tokens d) (tokensOf (a .deferred))
-  staying-is = ap₂ (λ n l. stayingOf (wakesOf (take 24576 m) n d) l) (p .size) (p .table)
+  renewed-is : renewedIn t d m ≡ after
+  unfolding after
+  renewed-is = ap₂ (λ n l. newWatches (leftHold (take 20480 m) n d) d l (watchesOf t m)) (p .size) (p .table)
+
+  woken-is : wokenIn t d m ≡ pick (λ w. eqb w d) (tokensOf (a .deferred)) after
+  woken-is = ap₂ (λ l ws. pick (λ w. eqb w d) l ws) (p .table) renewed-is
+
+  staying-is : stayingIn t d m ≡ pick (λ w. not (eqb w d)) (tokensOf (a .deferred)) after
+  staying-is = ap₂ (λ l ws. pick (λ w. not (eqb w d)) l ws) (p .table) renewed-is
 
   count-within : a .count ≤ tokens
   count-within = omega (arith, p .range .count, p .count, p .size)
@@ -117,20 +180,33 @@ module _ (tokens : ℕ) (numbers : ℕ → List ℕ) (a : rules.Tables) (t : Tab
   low-table : Below tokens (tokensOf (a .deferred))
   low-table = below-mono (tokensOf (a .deferred)) count-within (table-low (p .standing))
 
+  low-cells : Below tokens (tableOf t m)
+  low-cells = rw (p .table) low-table
+
   all-sound : unsoundIn t d m ≡ false
   all-sound =
-      ap₂ (λ n l. any (λ k. isUnsound (wakesOf (take 24576 m) n d k)) l) (p .size) (p .table)
-      ∙ none-unsound numbers (take 24576 m) tokens d (p .records) (tokensOf (a .deferred)) low-table
+      ap (λ n. any (λ k. isUnsound (leftHold (take 20480 m) n d k)) (pick (λ w. eqb w d) (tableOf t m) (watchesOf t m))) (p .size)
+      ∙ none-unsound numbers (take 20480 m) tokens d (p .records) (pick (λ w. eqb w d) (tableOf t m) (watchesOf t m))
+      (below-pick (λ w. eqb w d) tokens (tableOf t m) (watchesOf t m) low-cells)
 
   finisher-low : d < tokens
   finisher-low = omega (arith, p .standing .outside d (eq-eqb d d refl) .1, count-within)
 
+  table-length : length (tableOf t m) ≡ t .held
+  table-length = length-slice 20480 (20480 + t .held) m (omega (arith, p .range .held, p .whole)) ∙ omega arith
+
+  watches-length : length (watchesOf t m) ≡ t .held
+  watches-length = length-slice 24576 (24576 + t .held) m (omega (arith, p .range .held, p .whole)) ∙ omega arith
+
+  renewed-length : length (renewedIn t d m) ≡ t .held
+  renewed-length = length-new (leftHold (take 20480 m) (t .tokens) d) d (tableOf t m) (watchesOf t m) (watches-length ∙ sym table-length) ∙ table-length
+
   -- the woken and the staying are the whole table
   all-moved : length (wokenIn t d m) + length (stayingIn t d m) ≡ t .held
-  unfolding wokenOf stayingOf
-  all-moved =
-      keep-all (λ n. isYes (wakesOf (take 24576 m) (t .tokens) d n)) (tableOf t m)
-      ∙ length-slice 24576 (24576 + t .held) m (omega (arith, p .range .held, p .whole)) ∙ omega arith
+  all-moved = pick-all (λ w. eqb w d) (tableOf t m) (renewedIn t d m) (renewed-length ∙ sym table-length) ∙ table-length
+
+  even : length (watchingIn t d m) ≡ length (stayingIn t d m)
+  even = pick-same (λ w. not (eqb w d)) (renewedIn t d m) (tableOf t m) (renewedIn t d m) (renewed-length ∙ sym table-length)
 
   releases : releaseOf t d m ≡ Passed (movedTables t d m, movedMemory t d m)
   unfolding releaseOf
@@ -142,10 +218,9 @@ module _ (tokens : ℕ) (numbers : ℕ → List ℕ) (a : rules.Tables) (t : Tab
       )
 
   woken-low : Below 4096 (wokenIn t d m)
-  unfolding wokenOf
   woken-low =
-      below-keep 4096 (λ n. isYes (wakesOf (take 24576 m) (t .tokens) d n)) (tableOf t m)
-      (rw (p .table) (below-mono (tokensOf (a .deferred)) (omega (arith, count-within, p .size, p .range .tokens)) (table-low (p .standing))))
+      below-pick (λ w. eqb w d) 4096 (tableOf t m) (renewedIn t d m)
+      (below-mono (tableOf t m) (omega (arith, p .size, p .range .tokens)) low-cells)
 
   room : t .end + length (wokenIn t d m) ≤ 4096
   room = omega (arith, all-moved, p .room, p .range .count, p .range .tokens)
@@ -157,35 +232,44 @@ module _ (tokens : ℕ) (numbers : ℕ → List ℕ) (a : rules.Tables) (t : Tab
   low = omega (arith, finisher-low, p .size, p .range .tokens)
 
   long : length (movedMemory t d m) ≡ length m
-  unfolding movedMemory moved readied cleared closed queued
-  long = moved-length m (p .whole) (t .end) (t .held) d (wokenIn t d m) (stayingIn t d m) room short (p .range .held) woken-low low
+  unfolding movedMemory moved readied cleared halfway freed closed shut queued watched
+  long = moved-length m (p .whole) (t .end) (t .held) d (renewedIn t d m) (wokenIn t d m) (stayingIn t d m) (watchingIn t d m) renewed-length room short even (p .range .held) woken-low low
 
   after-queue : slice (28672 + t .first) (28672 + (t .end + length (wokenIn t d m))) (movedMemory t d m) ≡ rules.release d a .ready
-  unfolding movedMemory moved readied cleared closed queued rules.release
+  unfolding movedMemory moved readied cleared halfway freed closed shut queued watched rules.release after
   after-queue =
-      moved-queue m (p .whole) (t .end) (t .held) d (wokenIn t d m) (stayingIn t d m) room short (p .range .held) woken-low low (t .first) (p .range .queue)
-      ∙ ap₂ _++_ (p .queue) (woken-is ∙ sym (woken-are numbers (take 24576 m) tokens d (p .records) (a .deferred) (p .standing .waiting) low-table))
+      moved-queue m (p .whole) (t .end) (t .held) d (renewedIn t d m) (wokenIn t d m) (stayingIn t d m) (watchingIn t d m) renewed-length room short even (p .range .held) woken-low low (t .first) (p .range .queue)
+      ∙ ap₂ _++_ (p .queue) (woken-is ∙ sym (woken-are numbers (take 20480 m) tokens d (p .records) (a .deferred) (watchesOf t m) (p .standing .waiting) low-table (p .watched)))
 
-  after-table : slice 24576 (24576 + length (stayingIn t d m)) (movedMemory t d m) ≡ tokensOf (rules.release d a .deferred)
-  unfolding movedMemory moved readied cleared closed queued rules.release
+  after-table : slice 20480 (20480 + length (stayingIn t d m)) (movedMemory t d m) ≡ tokensOf (rules.release d a .deferred)
+  unfolding movedMemory moved readied cleared halfway freed closed shut queued watched rules.release after
   after-table =
-      moved-table m (p .whole) (t .end) (t .held) d (wokenIn t d m) (stayingIn t d m) room short (p .range .held) woken-low low
-      ∙ staying-is ∙ sym (staying-are numbers (take 24576 m) tokens d (p .records) (a .deferred) (p .standing .waiting) low-table)
+      moved-table m (p .whole) (t .end) (t .held) d (renewedIn t d m) (wokenIn t d m) (stayingIn t d m) (watchingIn t d m) renewed-length room short even (p .range .held) woken-low low
+      ∙ staying-is ∙ sym (staying-are numbers (take 20480 m) tokens d (p .records) (a .deferred) (watchesOf t m) (p .standing .waiting) low-table (p .watched))
 
-  after-records : (n : ℕ) → n < tokens → Recorded (take 24576 (movedMemory t d m)) n (numbers n)
-  unfolding movedMemory moved readied cleared closed queued
+  after-watched : Watched (rules.release d a .deferred) (slice 24576 (24576 + length (stayingIn t d m)) (movedMemory t d m))
+  unfolding movedMemory moved readied cleared halfway freed closed shut queued watched rules.release after
+  after-watched =
+      subst (Watched (rules.release d a .deferred))
+      (sym (moved-watches m (p .whole) (t .end) (t .held) d (renewedIn t d m) (wokenIn t d m) (stayingIn t d m) (watchingIn t d m) renewed-length room short even (p .range .held) woken-low low
+      ∙ ap (λ ws. pick (λ w. not (eqb w d)) ws ws) renewed-is))
+      (watched-after numbers (take 20480 m) tokens d (p .records) (a .deferred) (watchesOf t m) (p .standing .waiting) low-table (p .watched))
+
+  after-records : (n : ℕ) → n < tokens → Recorded (take 20480 (movedMemory t d m)) n (numbers n)
+  unfolding movedMemory moved readied cleared halfway freed closed shut queued watched
   after-records n l =
       recorded-kept m (movedMemory t d m)
-      (moved-records m (p .whole) (t .end) (t .held) d (wokenIn t d m) (stayingIn t d m) room short (p .range .held) woken-low low)
+      (moved-records m (p .whole) (t .end) (t .held) d (renewedIn t d m) (wokenIn t d m) (stayingIn t d m) (watchingIn t d m) renewed-length room short even (p .range .held) woken-low low)
       long (p .whole) n (omega (arith, p .size, p .range .tokens)) (p .records n l)
 
-  after-standing : Standing numbers (rules.release d a) (standingOf (take 24576 (movedMemory t d m))) nobody
-  unfolding movedMemory moved readied cleared closed queued
+  after-standing : Standing numbers (rules.release d a) (standingOf (take 20480 (movedMemory t d m))) nobody
+  unfolding movedMemory moved readied cleared halfway freed closed shut queued watched after
   after-standing =
       subst (λ s. Standing numbers (rules.release d a) s nobody)
-      (sym (moved-standing m (p .whole) (t .end) (t .held) d (wokenIn t d m) (stayingIn t d m) room short (p .range .held) woken-low low
-      ∙ ap (finished (standingOf (take 24576 m)) d) woken-is))
-      (release-standing numbers (take 24576 m) tokens d (p .records) a (p .standing) count-within)
+      (sym (moved-standing m (p .whole) (t .end) (t .held) d (renewedIn t d m) (wokenIn t d m) (stayingIn t d m) (watchingIn t d m) renewed-length room short even (p .range .held) woken-low low
+      ∙ ap (finished (standingOf (take 20480 m)) d)
+      (woken-is ∙ sym (woken-are numbers (take 20480 m) tokens d (p .records) (a .deferred) (watchesOf t m) (p .standing .waiting) low-table (p .watched)))))
+      (release-standing numbers (take 20480 m) d a (p .standing))
 
   pub release-match : (x : State) × (releaseOf t d m ≡ Passed x) × Match tokens numbers (rules.release d a) x nobody
   unfolding movedTables rules.release
@@ -207,6 +291,7 @@ module _ (tokens : ℕ) (numbers : ℕ → List ℕ) (a : rules.Tables) (t : Tab
       room = omega (arith, all-moved, p .room);
       queue = after-queue;
       table = after-table;
+      watched = after-watched;
       records = after-records;
       standing = after-standing;
     },

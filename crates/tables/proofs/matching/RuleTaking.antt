@@ -11,15 +11,15 @@ use lib.Seq.{append-snoc}
 use Rattle.rules.specs.Lists.{if, keep, has, times, Every, any, range}
 use Rattle.rules.specs.TakingTokens.{Held, Taken, none, took, tokensOf, isDue, raised, hold, takeNew}
 use Rattle.rules.specs.TakingTokens as rules
-use Rattle.tables.specs.declared.Test.{Test}
 use Rattle.tables.specs.declared.Count.{Count}
-use Rattle.tables.specs.Facts.{standingOf, dueOf, holdsOf, anyOf, ofNumbers, freeOf}
-use Rattle.tables.specs.Taking.{firstFree}
-use Rattle.tables.specs.Matching.{Recorded, Waits, Standing, nobody}
+use Rattle.tables.specs.Facts.{standingOf, dueOf, holdsOf, lastOf, holdAs, holdOf, newHold}
+use Rattle.tables.specs.Taking.{firstFree, watchOf}
+use Rattle.tables.specs.Matching.{Recorded, Waits, Watched, Standing, nobody}
 use Rattle.rules.proofs.lists.Tests.{if-same, if-eta, bool-ext, by-test}
 use Rattle.rules.proofs.lists.Members.{has-append, has-range, empty-keep, keep-cong, keep-same}
-use Rattle.rules.proofs.lists.Counting.{members, times-append}
+use Rattle.rules.proofs.lists.Counting.{members, has-keep, times-append}
 use Rattle.rules.proofs.lists.EveryLaws.{every-weaken, every-append}
+use Rattle.tables.proofs.memory.FactsLaws.{last-free, last-by}
 
 pub tokens-append : (l r : List Held) → tokensOf (l ++ r) ≡ tokensOf l ++ tokensOf r
 tokens-append [] r = refl
@@ -100,14 +100,14 @@ module _ (numbers : ℕ → List ℕ) (f : List ℕ) (c tokens : ℕ) where
   abbrev pub result : rules.Tables → ℕ → Taken
   result a k = if (ltb (a .count + k) tokens) (took (a .count + k) (after numbers f c a k (suc (a .count + k)))) (none (after numbers f c a k (a .count + k)))
 
-  free-is : (t : ℕ) → Recorded f t (numbers t) → freeOf f c t ≡ if (any (dueOf f c t) (numbers t)) Test.No Test.Yes
-  unfolding freeOf ofNumbers anyOf holdsOf
-  free-is t r = rw (r .2, r .3)
+  hold-is : (t : ℕ) → Recorded f t (numbers t) → newHold f c t ≡ lastOf (dueOf f c t) (numbers t)
+  unfolding newHold holdOf holdAs holdsOf
+  hold-is t r = rw (r .2, r .3)
 
   -- the rules and the search pass over the same k tokens, each with a number that is due, and give the same
   abbrev pub Together : ℕ → rules.Tables → Type 0
   Together left a =
-      (k : ℕ) × (k ≤ left) × (firstFree (freeOf f c) tokens (range (a .count) left) ≡ Count.Known (a .count + k))
+      (k : ℕ) × (k ≤ left) × (firstFree (newHold f c) tokens (range (a .count) left) ≡ Count.Known (a .count + k))
       × (takeNew numbers left a ≡ result a k) × AllDue numbers f c (range (a .count) k)
 
   -- the rules' table after the next token joins it
@@ -123,7 +123,7 @@ module _ (numbers : ℕ → List ℕ) (f : List ℕ) (c tokens : ℕ) where
     together-free b-is = (
       0,
       omega arith,
-      rw (free-is (a .count) recorded, b-is, add-zero (a .count)),
+      rw (hold-is (a .count) recorded, last-free (dueOf f c (a .count)) (numbers (a .count)) b-is, add-zero (a .count)),
       rw (
         due-is,
         empty-keep (dueOf f c (a .count)) (numbers (a .count)),
@@ -143,7 +143,7 @@ module _ (numbers : ℕ → List ℕ) (f : List ℕ) (c tokens : ℕ) where
         let shift : suc (a .count) + k ≡ a .count + suc k = omega arith in (
           suc k,
           omega (arith, later .1),
-          rw (free-is (a .count) recorded, b-is, ← shift) (later .2),
+          rw (hold-is (a .count) recorded, last-by (dueOf f c (a .count)) (numbers (a .count)) b-is .1, ← shift) (later .2),
           rw (due-is, empty-keep (dueOf f c (a .count)) (numbers (a .count)), b-is)
               (later .3 ∙ rw (append-snoc (a .deferred) (heldOf numbers f c (a .count)) (map (heldOf numbers f c) (range (suc (a .count)) k)), shift)),
           (b-is, later .4),
@@ -164,6 +164,26 @@ module _ (numbers : ℕ → List ℕ) (f : List ℕ) (c tokens : ℕ) where
       by-test (any (dueOf f c (a .count)) (numbers (a .count)))
       (λ b-is. together-waits left a p (records (a .count) (omega arith)) e b-is later)
       (λ b-is. together-free left a p (records (a .count) (omega arith)) e b-is)
+
+  -- the watch of a token that is passed over is one of the numbers that it waits for
+  watch-due : (t : ℕ) → Recorded f t (numbers t) → any (dueOf f c t) (numbers t) ≡ true → has (keep (dueOf f c t) (numbers t)) (watchOf f c t) ≡ true
+  unfolding watchOf
+  watch-due t r due =
+      let (n, by, in-record, is-due) = last-by (dueOf f c t) (numbers t) due in
+      rw (hold-is t r, by, has-keep (dueOf f c t) (numbers t) n, is-due) in-record
+
+  pub watched-new : (i k : ℕ) → ((n : ℕ) → n < tokens → Recorded f n (numbers n)) → i + k ≤ tokens → AllDue numbers f c (range i k) →
+      Watched (map (heldOf numbers f c) (range i k)) (map (watchOf f c) (range i k))
+  unfolding range
+  watched-new i zero records h due = tt
+  watched-new i (suc k) records h due = (watch-due i (records i (omega arith)) (due .0), watched-new (suc i) k records (omega arith) (due .1))
+
+-- more tokens with their watches
+pub watched-append : (l r : List Held) (ws vs : List ℕ) → Watched l ws → Watched r vs → Watched (l ++ r) (ws ++ vs)
+watched-append [] r [] vs w v = v
+watched-append [] r (x ∷ ws) vs w v = absurd w
+watched-append (h ∷ l) r [] vs w v = absurd w
+watched-append (h ∷ l) r (x ∷ ws) vs w v = (w .0, watched-append l r ws vs (w .1) v)
 
 -- no number comes twice in a range
 times-range : (i k n : ℕ) → (times n (range i k) ≤ 1) × (n < i → times n (range i k) ≡ 0)

@@ -12,8 +12,8 @@ use Rattle.tables.specs.State.{span, marks}
 use Rattle.rules.specs.Lists.{range}
 
 -- the facts' part of the memory has its whole length
-pub facts-length : (m : List ℕ) → 32768 ≤ length m → length (take 24576 m) ≡ 24576
-facts-length m h = length-take-le 24576 m (omega arith)
+pub facts-length : (m : List ℕ) → 32768 ≤ length m → length (take 20480 m) ≡ 20480
+facts-length m h = length-take-le 20480 m (omega arith)
 
 -- a span is empty from its end on, and begins with its first token before
 pub span-nil : (i n : ℕ) → n ≤ i → span i n ≡ []
@@ -73,7 +73,7 @@ sets-none m at e vs-are = sym (rw vs-are at e)
 
 -- a mark, where a list of tokens is left to mark
 pub marks-store : {whole : List ℕ} (m : List ℕ) (s : ℕ) {ts us : List ℕ} {t u : ℕ} → whole ≡ marks m s ts → ts ≡ t ∷ us → u ≡ t →
-    whole ≡ marks (set m (20480 + u) s) s us
+    whole ≡ marks (set m (16384 + u) s) s us
 unfolding marks
 marks-store m s e ts-are u-is = rw u-is (rw ts-are at e)
 

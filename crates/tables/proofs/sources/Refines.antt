@@ -1,7 +1,7 @@
 -- The tables in memory give the same tokens as the rules' tables.
-use mathlib.Core.Path.{_≡_, refl, sym}
+use mathlib.Core.Path.{_≡_, refl, sym, subst}
 use mathlib.Core.Bool.{false, true≢false}
-use mathlib.Core.List.{List}
+use mathlib.Core.List.{List, []}
 use Prim.Native.Nat.{ℕ, _<_, _≤_}
 use native.Mathlib.Omega.{arith}
 use lib.ListN.{length, take}
@@ -13,7 +13,7 @@ use Rattle.rules.specs.PlainSheet.{plainSource}
 use Rattle.rules.proofs.sources.Following.{writes-map}
 use Rattle.tables.specs.Facts.{standingOf}
 use Rattle.tables.specs.State.{State, openedTables}
-use Rattle.tables.specs.Matching.{Recorded, Standing, Match, nobody}
+use Rattle.tables.specs.Matching.{Recorded, Watched, Standing, Match, nobody}
 use Rattle.tables.specs.Calls.{memorySource}
 use Rattle.tables.proofs.sources.Joint.{memorySide, memory-follows, joint-writes}
 
@@ -28,8 +28,8 @@ module _ (tokens : ℕ) (numbers : ℕ → List ℕ) where
 
   -- at opening, with good records and every standing 0, the memory stands for the opened tables of the rules
   module _ (m : List ℕ) (few : tokens ≤ 4096) (whole : 32768 ≤ length m)
-      (records : (n : ℕ) → n < tokens → Recorded (take 24576 m) n (numbers n)) (zeros : (n : ℕ) → standingOf (take 24576 m) n ≡ 0) where
-    opened-standing : Standing numbers rules.opened (standingOf (take 24576 m)) nobody
+      (records : (n : ℕ) → n < tokens → Recorded (take 20480 m) n (numbers n)) (zeros : (n : ℕ) → standingOf (take 20480 m) n ≡ 0) where
+    opened-standing : Standing numbers rules.opened (standingOf (take 20480 m)) nobody
     unfolding has times
     opened-standing =
         record {
@@ -51,7 +51,8 @@ module _ (tokens : ℕ) (numbers : ℕ → List ℕ) where
           count = refl;
           room = omega arith;
           queue = slice-empty 28672 m;
-          table = slice-empty 24576 m;
+          table = slice-empty 20480 m;
+          watched = subst (Watched []) (sym (slice-empty 24576 m)) tt;
           records = records;
           standing = opened-standing;
         }

@@ -28,9 +28,6 @@ standing-requires-2 c κs = search needs
 returns-3 : tie.Need-returns-3
 returns-3 c = laws.left-past _ _ (c .before .before .before .question2 .given .1) (c .before .standing2 .ensures) (c .if3 .taken)
 
-enum-known-question-3 : tie.Need-enum-known-question-3
-enum-known-question-3 c = search needs
-
 returns-4 : tie.Need-returns-4
 returns-4 c =
     let at-standing = c .before .before in
@@ -39,9 +36,6 @@ returns-4 c =
 
 returns-5 : tie.Need-returns-5
 returns-5 c = laws.left-other _ _ (c .before .before .before .question2 .given .1) (c .before .standing2 .ensures) (c .if3 .left)
-
-returns-6 : tie.Need-returns-6
-returns-6 c = laws.same-is _ _ (c .before .question3 .given .1)
 
 pub holds-spec : {M : Type 1} → statement M
 holds-spec =
@@ -54,7 +48,5 @@ holds-spec =
     enum-known-question-2
     standing-requires-2
     returns-3
-    enum-known-question-3
     returns-4
-    returns-5
-    returns-6)
+    returns-5)

@@ -12,6 +12,9 @@ returns c = laws.at-none _ (c .if1 .taken)
 returns-2 : tie.Need-returns-2
 returns-2 c = laws.at-beyond _ refl (c .before .if1 .left) (omega arith)
 
+sub-wide : tie.Need-sub-wide
+sub-wide c = search needs
+
 mul-wide : tie.Need-mul-wide
 mul-wide c = search needs
 
@@ -23,9 +26,6 @@ wide-requires c κs = search needs
 
 add-if3 : tie.Need-add-if3
 add-if3 c = search needs
-
-add-if3-2 : tie.Need-add-if3-2
-add-if3-2 c = omega arith
 
 returns-3 : tie.Need-returns-3
 returns-3 c = laws.at-beyond _ (c .before .wide .ensures .0) (c .before .before .before .before .if1 .left) (c .if3 .taken)
@@ -43,14 +43,8 @@ returns-5 c =
     let at-if1 = at-wide .before .before .before in
     laws.at-long _ (at-wide .wide .ensures .0) (at-if1 .if1 .left) (at-if3 .if3 .left) (c .before .if4 .left) (c .if5 .taken)
 
-add-t5 : tie.Need-add-t5
-add-t5 c = search needs
-
-add-t8 : tie.Need-add-t8
-add-t8 c = search needs
-
-add-t9 : tie.Need-add-t9
-add-t9 c = search needs
+add-t6 : tie.Need-add-t6
+add-t6 c = search needs
 
 returns-6 : tie.Need-returns-6
 returns-6 c =
@@ -65,15 +59,13 @@ numbers-at-spec =
     (tie.spec
     returns
     returns-2
+    sub-wide
     mul-wide
     shared-slice-read-wide
     wide-requires
     add-if3
-    add-if3-2
     returns-3
     returns-4
     returns-5
-    add-t5
-    add-t8
-    add-t9
+    add-t6
     returns-6)

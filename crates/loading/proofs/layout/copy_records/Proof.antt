@@ -1,65 +1,94 @@
--- `layout::copy_records` meets its contract. The invariant: to store all fields is to store those from `at` on from `cell` on.
-use mathlib.Core.Path.{_≡_}
-use Prim.Native.Nat.{_≤_, _-_, _*_}
-use lib.ListN.{length, drop}
+-- `layout::copy_records` meets its contract. The invariant: to copy all records is to copy those from `at` on.
+use mathlib.Core.Path.{_≡_, ap}
+use Prim.Native.Nat.{_+_, _-_, _*_}
+use lib.ListN.{length, take, drop, length-take}
 use lib.Seq.{sets}
-use Rattle.fields.specs.Bytes.{fields}
+use Rattle.plan.specs.Records.{recordsIn}
+use Rattle.fields.proofs.Fields.{field-inside}
+use Rattle.loading.specs.Layout.{recordsFields}
+use Rattle.loading.proofs.memory_laid.Marking.{Left, First, copying, left-first, begun, first, copied-record, none-copied}
 use native.Mathlib.Omega.{arith}
 use borrow.Author.Needs.{needs}
-use Rattle.fields.proofs.Fields.{fields-turn, fields-end}
-use Rattle.fields.proofs.Fields.{field-inside}
-use Rattle.tables.proofs.memory.Cells.{sets-store, sets-none}
 use Rattle.loading.proofs.layout.copy_records.Statement.{statement}
 use Rattle.loading.proofs.layout.copy_records.Tie as tie
 
 abbrev Inv-loop : tie.InvT-loop
-Inv-loop part mem₀ at₀ cell₀ mem at cell =
-    (at ≤ length part) × (2 * cell ≡ at) × (length mem ≡ length mem₀) × (sets mem₀ 0 (fields part) ≡ sets mem cell (fields (drop at part)))
+Inv-loop part mem₀ at₀ place₀ mem at place =
+    (length mem ≡ length mem₀) × Left copying part (sets mem₀ 0 (recordsFields (recordsIn part))) mem at place
 
 abbrev μ-loop : tie.MeasureT-loop
-μ-loop part mem₀ at₀ cell₀ mem at cell = length part - at
+μ-loop part mem₀ at₀ place₀ mem at place = length part - at
 
 loop-holds : tie.Need-loop-holds Inv-loop μ-loop
-loop-holds c = search needs
+loop-holds c = (search needs, left-first copying (c .before .before .pre .1))
 
-add-loop : tie.Need-add-loop Inv-loop μ-loop
-add-loop c = search needs
+add-field-or-zero : tie.Need-add-field-or-zero Inv-loop μ-loop
+add-field-or-zero c = search needs
 
 field-or-zero-requires : tie.Need-field-or-zero-requires Inv-loop μ-loop
 field-or-zero-requires c κs = search needs
 
-mul-mem : tie.Need-mul-mem Inv-loop μ-loop
-mul-mem c = search needs
+-- the record that a turn finds
+found : (c : tie.After-field-or-zero Inv-loop μ-loop) →
+    let l = c .before .before in
+    let args = l .before .before .before .args in
+    First copying (args .part .now) (sets (args .mem .now) 0 (recordsFields (recordsIn (args .part .now)))) (l .loop .mem) (l .loop .at) (l .loop .place)
+    (c .field-or-zero .result)
+found c =
+    let l = c .before .before in
+    let inside = begun (l .loop .inv .1) (c .before .loop-test .taken) in
+    first (l .loop .inv .1) (c .before .loop-test .taken) _ (field-inside _ _ (omega (arith, inside)) (c .field-or-zero .ensures))
 
-slice-write-mem : tie.Need-slice-write-mem Inv-loop μ-loop
-slice-write-mem c = search needs
+cast-count : tie.Need-cast-count Inv-loop μ-loop
+cast-count c = search needs
 
-add-at : tie.Need-add-at Inv-loop μ-loop
-add-at c = search needs
+add-from : tie.Need-add-from Inv-loop μ-loop
+add-from c = search needs
 
-add-cell : tie.Need-add-cell Inv-loop μ-loop
-add-cell c = search needs
+mul-end : tie.Need-mul-end Inv-loop μ-loop
+mul-end c = omega (arith, found c .room, found c .inside)
+
+add-end : tie.Need-add-end Inv-loop μ-loop
+add-end c = omega (arith, found c .room, found c .inside)
+
+add-end-2 : tie.Need-add-end-2 Inv-loop μ-loop
+add-end-2 c = omega (arith, found c .room, found c .inside)
+
+sub-copy-fields : tie.Need-sub-copy-fields Inv-loop μ-loop
+sub-copy-fields c = omega arith
+
+part-copy-fields-start : tie.Need-part-copy-fields-start Inv-loop μ-loop
+part-copy-fields-start c = omega arith
+
+part-copy-fields-end : tie.Need-part-copy-fields-end Inv-loop μ-loop
+part-copy-fields-end c = omega (arith, found c .inside)
+
+copy-fields-requires : tie.Need-copy-fields-requires Inv-loop μ-loop
+copy-fields-requires c κs = let f = found (c .before .before) in simp length-take (omega (arith, f .room))
+
+add-place : tie.Need-add-place Inv-loop μ-loop
+add-place c = let f = found (c .before .before .before .before .before) in omega (arith, f .room)
+
+add-place-2 : tie.Need-add-place-2 Inv-loop μ-loop
+add-place-2 c = let f = found (c .before .before .before .before .before) in omega (arith, f .room)
 
 loop-less : tie.Need-loop-less Inv-loop μ-loop
-loop-less c = search needs
+loop-less c = let f = found (c .before .before .before .before .before) in omega (arith, f .inside)
 
 loop-again : tie.Need-loop-again Inv-loop μ-loop
 loop-again c =
-    let l = c .before .before in (
-      search needs,
-      search needs,
-      search needs,
-      sets-store _ _ (l .loop .inv .3) (fields-turn (l .before .before .before .args .part .now) (l .loop .at) (omega arith))
-          (field-inside _ _ (omega arith) (c .field-or-zero .ensures)),
-    )
+    let at-copy = c .before .before in
+    let at-count = at-copy .before .before .before in
+    let l = at-count .before .before in
+    let part = l .before .before .before .args .part .now in
+    let size : l .loop .at + (4 + 2 * at-count .field-or-zero .result) - (l .loop .at + 2) ≡ 2 + 2 * at-count .field-or-zero .result = omega arith in
+    (search needs, copied-record (found at-count) (ap (λ k. take k (drop (l .loop .at + 2) part)) size) (at-copy .copy-fields .ensures))
 
 same-length : tie.Need-same-length Inv-loop μ-loop
 same-length c = search needs
 
 returns : tie.Need-returns Inv-loop μ-loop
-returns c =
-    let l = c .before in
-    sets-none _ _ (l .loop .inv .3) (fields-end (l .before .before .before .args .part .now) (l .loop .at) (omega arith))
+returns c = none-copied (c .before .loop .inv .1) (c .loop-test .left)
 
 pub copy-records-spec : {M : Type 1} → statement M
 copy-records-spec =
@@ -68,12 +97,19 @@ copy-records-spec =
     Inv-loop
     μ-loop
     loop-holds
-    add-loop
+    add-field-or-zero
     field-or-zero-requires
-    mul-mem
-    slice-write-mem
-    add-at
-    add-cell
+    cast-count
+    add-from
+    mul-end
+    add-end
+    add-end-2
+    sub-copy-fields
+    part-copy-fields-start
+    part-copy-fields-end
+    copy-fields-requires
+    add-place
+    add-place-2
     loop-less
     loop-again
     same-length

@@ -1,7 +1,6 @@
 -- `layout::lay_out` meets its contract.
-use native.Mathlib.Omega.{arith}
 use borrow.Author.Needs.{needs}
-use Rattle.loading.proofs.memory_laid.LayingOut.{laid-by, part-short}
+use Rattle.loading.proofs.memory_laid.LayingOut.{laid-by}
 use Rattle.loading.proofs.layout.lay_out.Statement.{statement}
 use Rattle.loading.proofs.layout.lay_out.Tie as tie
 
@@ -9,9 +8,7 @@ clear-requires : tie.Need-clear-requires
 clear-requires c κs = search needs
 
 copy-records-requires : tie.Need-copy-records-requires
-copy-records-requires c κs =
-    let start = c .before .before .before .before .before .before .before in
-    omega (arith, part-short _ (start .args .mem .now) _ (start .pre .1))
+copy-records-requires c κs = search needs
 
 mark-records-requires : tie.Need-mark-records-requires
 mark-records-requires c κs = search needs

@@ -1,119 +1,89 @@
 -- `releasing::in_range::count_woken` meets its contract.
 use borrow.Author.Needs.{needs}
-use mathlib.Core.Path.{_≡_, refl, _∙_}
-use Prim.Native.Nat.{_≤_, _+_, _-_}
-use native.Mathlib.Nat.{le-trans}
+use mathlib.Core.Path.{_≡_, _∙_}
+use Prim.Native.Nat.{_+_, _-_}
 use native.Mathlib.Omega.{arith}
-use lib.ListN.{length, getD, take}
-use lib.Seq.{slice}
-use Rattle.tables.specs.Facts.{wakesOf}
-use Rattle.tables.specs.Releasing.{tallyOf}
-use Rattle.tables.proofs.code.ReleasingLaws as laws
-use Rattle.tables.proofs.code.WaitingLaws.{past-within, past-tally}
-use Rattle.tables.proofs.code.CallLaws.{wakes-is}
+use lib.ListN.{getD, take}
+use Rattle.tables.specs.Facts.{leftHold}
+use Rattle.tables.proofs.code.Passes as passes
+use Rattle.tables.proofs.code.CallLaws.{left-is}
 use Rattle.releasing.proofs.in_range.count_woken.Statement.{statement}
 use Rattle.releasing.proofs.in_range.count_woken.Tie as tie
 
 abbrev Inv-loop : tie.InvT-loop
-Inv-loop mem tokens past last n₀ cell₀ n cell =
-    (cell ≤ last) × (24576 + n ≤ cell)
-    × (tallyOf (wakesOf (take 24576 mem) tokens past) 0 (slice 24576 last mem) ≡ tallyOf (wakesOf (take 24576 mem) tokens past) n (slice cell last mem))
+Inv-loop mem tokens past held n₀ cell₀ n cell = passes.Counting mem tokens past held n cell
 
 abbrev μ-loop : tie.MeasureT-loop
-μ-loop mem tokens past last n₀ cell₀ n cell = last - cell
+μ-loop mem tokens past held n₀ cell₀ n cell = held - cell
 
 loop-holds : tie.Need-loop-holds Inv-loop μ-loop
-loop-holds c = (search needs, search needs, refl)
+loop-holds c = passes.count-start _ _ _ _
 
 -- the facts of a turn in the paths of their places: written out, they are compared with the code's values only here
 turn : (c : tie.At-loop Inv-loop μ-loop) → let start = c .before .before in
-    tallyOf (wakesOf (take 24576 (start .args .mem .now)) (start .args .tokens) (start .args .past)) 0 (slice 24576 (start .args .last) (start .args .mem .now))
-    ≡ tallyOf (wakesOf (take 24576 (start .args .mem .now)) (start .args .tokens) (start .args .past)) (c .loop .n) (slice (c .loop .cell) (start .args .last) (start .args .mem .now))
-turn c = c .loop .inv .2
+    passes.Counting (start .args .mem .now) (start .args .tokens) (start .args .past) (start .args .held) (c .loop .n) (c .loop .cell)
+turn c = c .loop .inv
 
-within : (c : tie.Start Inv-loop μ-loop) → c .args .last ≤ length (c .args .mem .now)
-within c = laws.table-within (c .args .mem .now) (c .pre .0 .0) (c .pre .1 .1)
-
-passed : (c : tie.After-past-waiting Inv-loop μ-loop) → let start = c .before .before .before .before in
-    tallyOf (wakesOf (take 24576 (start .args .mem .now)) (start .args .tokens) (start .args .past)) 0 (slice 24576 (start .args .last) (start .args .mem .now))
-    ≡ tallyOf (wakesOf (take 24576 (start .args .mem .now)) (start .args .tokens) (start .args .past)) (c .before .before .loop .n) (slice (c .past-waiting .result) (start .args .last) (start .args .mem .now))
+passed : (c : tie.After-next Inv-loop μ-loop) → let at-loop = c .before .before in let start = at-loop .before .before in
+    passes.Counting (start .args .mem .now) (start .args .tokens) (start .args .past) (start .args .held) (at-loop .loop .n) (c .next .result)
 passed c =
     let at-loop = c .before .before in
     let start = at-loop .before .before in
-    turn at-loop
-    ∙ past-tally (start .args .mem .now) (start .args .tokens) (start .args .past) (start .pre .0 .0) (start .pre .0 .1) (start .pre .1 .1) (at-loop .loop .inv .0)
-    (c .past-waiting .ensures) (at-loop .loop .n)
+    passes.count-pass (start .pre .0 .0) (start .pre .1) (turn at-loop) (c .next .ensures)
 
-told : (c : tie.After-wakes Inv-loop μ-loop) → let at-next = c .before .before .before in let start = at-next .before .before .before .before in
-    c .wakes .result ≡ wakesOf (take 24576 (start .args .mem .now)) (start .args .tokens) (start .args .past) (getD (start .args .mem .now) (at-next .past-waiting .result) 0)
+told : (c : tie.After-left-hold Inv-loop μ-loop) → let at-next = c .before .before .before in let start = at-next .before .before .before .before in
+    c .left-hold .result ≡ leftHold (take 20480 (start .args .mem .now)) (start .args .tokens) (start .args .past) (getD (start .args .mem .now) (20480 + at-next .next .result) 0)
 told c =
     let start = c .before .before .before .before .before .before .before in
-    c .wakes .ensures ∙ wakes-is (start .args .mem .now) _ _ _ (start .pre .0 .0) (start .pre .0 .1)
+    c .left-hold .ensures ∙ left-is (start .args .mem .now) _ _ _ (start .pre .0 .0) (start .pre .0 .1)
 
-between : (c : tie.After-past-waiting Inv-loop μ-loop) → let at-loop = c .before .before in
-    (at-loop .loop .cell ≤ c .past-waiting .result) × (c .past-waiting .result ≤ at-loop .before .before .args .last)
-between c =
-    let at-loop = c .before .before in
-    let start = at-loop .before .before in
-    past-within (start .args .mem .now) (start .args .tokens) (start .args .past) (start .pre .0 .0) (start .pre .0 .1) (start .pre .1 .1) (at-loop .loop .inv .0)
-    (c .past-waiting .ensures)
+next-requires : tie.Need-next-requires Inv-loop μ-loop
+next-requires c κs = search needs
 
-few : (c : tie.After-past-waiting Inv-loop μ-loop) → 24576 + c .before .before .loop .n ≤ c .past-waiting .result
-few c = le-trans (c .before .before .loop .inv .1) (between c .0)
+add-left-hold : tie.Need-add-left-hold Inv-loop μ-loop
+add-left-hold c = search needs
 
-next : (c : tie.Then1 Inv-loop μ-loop) → let at-next = c .before in let at-loop = at-next .before .before in let last = at-loop .before .before .args .last in
-    (at-next .past-waiting .result + 1 ≤ last) × (24576 + (at-loop .loop .n + 1) ≤ at-next .past-waiting .result + 1) × (24576 + at-loop .loop .n ≤ at-next .past-waiting .result + 1)
-next c = laws.count-next (c .before .before .before .loop .n) (few (c .before)) (c .if1 .taken)
+mul-left-hold : tie.Need-mul-left-hold Inv-loop μ-loop
+mul-left-hold c = search needs
 
-past-waiting-requires : tie.Need-past-waiting-requires Inv-loop μ-loop
-past-waiting-requires c κs = search needs
+shared-slice-read-left-hold : tie.Need-shared-slice-read-left-hold Inv-loop μ-loop
+shared-slice-read-left-hold c = search needs
 
-mul-wakes : tie.Need-mul-wakes Inv-loop μ-loop
-mul-wakes c = search needs
-
-shared-slice-read-wakes : tie.Need-shared-slice-read-wakes Inv-loop μ-loop
-shared-slice-read-wakes c = search needs
-
-wakes-requires : tie.Need-wakes-requires Inv-loop μ-loop
-wakes-requires c κs = search needs
+left-hold-requires : tie.Need-left-hold-requires Inv-loop μ-loop
+left-hold-requires c κs = search needs
 
 enum-told : tie.Need-enum-told Inv-loop μ-loop
 enum-told c = search needs
 
 returns : tie.Need-returns Inv-loop μ-loop
 returns c =
-    let at-wakes = c .before .before in
-    let at-if1 = at-wakes .before .before in
+    let at-hold = c .before .before in
+    let at-if1 = at-hold .before .before in
     let at-next = at-if1 .before in
-    let at-loop = at-next .before .before in
-    let start = at-loop .before .before in
-    laws.tally-bad (wakesOf (take 24576 (start .args .mem .now)) (start .args .tokens) (start .args .past)) (at-loop .loop .n) (start .args .mem .now) (at-next .past-waiting .result) (start .args .last)
-    (passed at-next) (at-if1 .if1 .taken) (within start) (told at-wakes) (c .enum-told .given .1)
+    let start = at-next .before .before .before .before in
+    passes.count-bad (start .pre .0 .0) (start .pre .1) (passed at-next) (at-if1 .if1 .taken) (at-next .next .ensures .hit (at-if1 .if1 .taken)) (told at-hold) (c .enum-told .given .1)
 
 enum-told-2 : tie.Need-enum-told-2 Inv-loop μ-loop
 enum-told-2 c = search needs
 
 add-n : tie.Need-add-n Inv-loop μ-loop
-add-n c = search needs
+add-n c =
+    let at-if1 = c .before .before .before .before in
+    record { fits = omega (arith, passed (at-if1 .before) .few, at-if1 .if1 .taken, at-if1 .before .before .before .before .before .pre .1) }
 
 add-cell : tie.Need-add-cell Inv-loop μ-loop
 add-cell c = search needs
 
 loop-less : tie.Need-loop-less Inv-loop μ-loop
-loop-less c = let at-if1 = c .before .before .before .before in omega (arith, between (at-if1 .before) .0, at-if1 .if1 .taken)
+loop-less c = let at-if1 = c .before .before .before .before in omega (arith, at-if1 .before .next .ensures .from, at-if1 .if1 .taken)
 
 loop-again : tie.Need-loop-again Inv-loop μ-loop
 loop-again c =
-    let at-wakes = c .before .before in
-    let at-if1 = at-wakes .before .before in
+    let at-hold = c .before .before in
+    let at-if1 = at-hold .before .before in
     let at-next = at-if1 .before in
-    let at-loop = at-next .before .before in
-    let start = at-loop .before .before in (
-      next at-if1 .0,
-      next at-if1 .1,
-      laws.tally-yes (wakesOf (take 24576 (start .args .mem .now)) (start .args .tokens) (start .args .past)) (at-loop .loop .n) (start .args .mem .now) (at-next .past-waiting .result) (start .args .last)
-          (passed at-next) (at-if1 .if1 .taken) (within start) (told at-wakes) (c .enum-told2 .given .1),
-    )
+    let start = at-next .before .before .before .before in
+    passes.count-free (start .pre .0 .0) (start .pre .1) (passed at-next) (at-if1 .if1 .taken) (at-next .next .ensures .hit (at-if1 .if1 .taken)) (told at-hold) (c .enum-told2 .given .1)
 
 enum-told-3 : tie.Need-enum-told-3 Inv-loop μ-loop
 enum-told-3 c = search needs
@@ -122,33 +92,27 @@ add-cell-2 : tie.Need-add-cell-2 Inv-loop μ-loop
 add-cell-2 c = search needs
 
 loop-less-2 : tie.Need-loop-less-2 Inv-loop μ-loop
-loop-less-2 c = let at-if1 = c .before .before .before .before in omega (arith, between (at-if1 .before) .0, at-if1 .if1 .taken)
+loop-less-2 c = let at-if1 = c .before .before .before .before in omega (arith, at-if1 .before .next .ensures .from, at-if1 .if1 .taken)
 
 loop-again-2 : tie.Need-loop-again-2 Inv-loop μ-loop
 loop-again-2 c =
-    let at-wakes = c .before .before in
-    let at-if1 = at-wakes .before .before in
+    let at-hold = c .before .before in
+    let at-if1 = at-hold .before .before in
     let at-next = at-if1 .before in
-    let at-loop = at-next .before .before in
-    let start = at-loop .before .before in (
-      next at-if1 .0,
-      next at-if1 .2,
-      laws.tally-no (wakesOf (take 24576 (start .args .mem .now)) (start .args .tokens) (start .args .past)) (at-loop .loop .n) (start .args .mem .now) (at-next .past-waiting .result) (start .args .last)
-          (passed at-next) (at-if1 .if1 .taken) (within start) (told at-wakes) (c .enum-told3 .given .1),
-    )
+    let start = at-next .before .before .before .before in
+    passes.count-by (start .pre .0 .0) (start .pre .1) (passed at-next) (at-if1 .if1 .taken) (at-next .next .ensures .hit (at-if1 .if1 .taken)) (told at-hold) (c .enum-told3 .given .1)
 
 loop-less-3 : tie.Need-loop-less-3 Inv-loop μ-loop
 loop-less-3 c = search needs
 
 loop-again-3 : tie.Need-loop-again-3 Inv-loop μ-loop
-loop-again-3 c = (between (c .before) .1, few (c .before), passed (c .before))
+loop-again-3 c = passed (c .before)
 
 returns-2 : tie.Need-returns-2 Inv-loop μ-loop
 returns-2 c =
     let at-loop = c .before in
     let start = at-loop .before .before in
-    laws.tally-end (wakesOf (take 24576 (start .args .mem .now)) (start .args .tokens) (start .args .past)) (at-loop .loop .n) (start .args .mem .now) (at-loop .loop .cell) (start .args .last)
-    (turn at-loop) (at-loop .loop .inv .0) (c .loop-test .left)
+    passes.count-end (start .pre .0 .0) (start .pre .1) (turn at-loop) (c .loop-test .left)
 
 pub count-woken-spec : {M : Type 1} → statement M
 count-woken-spec =
@@ -157,10 +121,11 @@ count-woken-spec =
     Inv-loop
     μ-loop
     loop-holds
-    past-waiting-requires
-    mul-wakes
-    shared-slice-read-wakes
-    wakes-requires
+    next-requires
+    add-left-hold
+    mul-left-hold
+    shared-slice-read-left-hold
+    left-hold-requires
     enum-told
     returns
     enum-told-2

@@ -4,17 +4,17 @@ use mathlib.Core.Path.{_≡_, refl, sym, _∙_}
 use Prim.Native.Nat.{_≤_, _-_}
 use native.Mathlib.Omega.{arith}
 use lib.ListN.{take}
-use Rattle.tables.specs.Facts.{freeOf}
+use Rattle.tables.specs.Facts.{newHold}
 use Rattle.tables.specs.State.{span}
 use Rattle.tables.specs.Taking.{firstFree, findOf}
-use Rattle.tables.proofs.code.CallLaws.{free-is}
+use Rattle.tables.proofs.code.CallLaws.{new-is}
 use Rattle.tables.proofs.code.TakingLaws as laws
 use Rattle.taking.proofs.in_range.find.Statement.{statement}
 use Rattle.taking.proofs.in_range.find.Tie as tie
 
 abbrev Inv-loop : tie.InvT-loop
 Inv-loop mem tokens count token₀ token =
-    (token ≤ tokens) × (firstFree (freeOf (take 24576 mem) count) tokens (span count tokens) ≡ firstFree (freeOf (take 24576 mem) count) tokens (span token tokens))
+    (token ≤ tokens) × (firstFree (newHold (take 20480 mem) count) tokens (span count tokens) ≡ firstFree (newHold (take 20480 mem) count) tokens (span token tokens))
 
 abbrev μ-loop : tie.MeasureT-loop
 μ-loop mem tokens count token₀ token = tokens - token
@@ -22,15 +22,15 @@ abbrev μ-loop : tie.MeasureT-loop
 loop-holds : tie.Need-loop-holds Inv-loop μ-loop
 loop-holds c = (search needs, refl)
 
-free-requires : tie.Need-free-requires Inv-loop μ-loop
-free-requires c κs = search needs
+new-hold-requires : tie.Need-new-hold-requires Inv-loop μ-loop
+new-hold-requires c κs = search needs
 
 -- the answer about a token below N, of tables within their ranges
-told : (c : tie.After-free Inv-loop μ-loop) → let at-loop = c .before .before in let start = at-loop .before .before in
-    c .free .result ≡ freeOf (take 24576 (start .args .mem .now)) (start .args .count) (at-loop .loop .token)
+told : (c : tie.After-new-hold Inv-loop μ-loop) → let at-loop = c .before .before in let start = at-loop .before .before in
+    c .new-hold .result ≡ newHold (take 20480 (start .args .mem .now)) (start .args .count) (at-loop .loop .token)
 told c =
     let start = c .before .before .before .before in
-    c .free .ensures ∙ free-is (start .args .mem .now) _ _ (start .pre .0) (omega (arith, c .before .loop-test .taken, start .pre .1 .1))
+    c .new-hold .ensures ∙ new-is (start .args .mem .now) _ _ (start .pre .0) (omega (arith, c .before .loop-test .taken, start .pre .1 .1))
 
 enum-told : tie.Need-enum-told Inv-loop μ-loop
 enum-told c = search needs
@@ -38,10 +38,10 @@ enum-told c = search needs
 returns : tie.Need-returns Inv-loop μ-loop
 unfolding findOf
 returns c =
-    let at-free = c .before .before in
-    let at-loop-test = at-free .before in
+    let at-hold = c .before .before in
+    let at-loop-test = at-hold .before in
     let at-loop = at-loop-test .before in
-    sym (laws.find-step _ _ _ (at-loop .loop .inv .1) (at-loop-test .loop-test .taken) (told at-free) (c .enum-told .given .1))
+    sym (laws.find-step _ _ _ (at-loop .loop .inv .1) (at-loop-test .loop-test .taken) (told at-hold) (c .enum-told .given .1))
 
 enum-told-2 : tie.Need-enum-told-2 Inv-loop μ-loop
 enum-told-2 c = search needs
@@ -49,10 +49,10 @@ enum-told-2 c = search needs
 returns-2 : tie.Need-returns-2 Inv-loop μ-loop
 unfolding findOf
 returns-2 c =
-    let at-free = c .before .before in
-    let at-loop-test = at-free .before in
+    let at-hold = c .before .before in
+    let at-loop-test = at-hold .before in
     let at-loop = at-loop-test .before in
-    sym (laws.find-step _ _ _ (at-loop .loop .inv .1) (at-loop-test .loop-test .taken) (told at-free) (c .enum-told2 .given .1))
+    sym (laws.find-step _ _ _ (at-loop .loop .inv .1) (at-loop-test .loop-test .taken) (told at-hold) (c .enum-told2 .given .1))
 
 enum-told-3 : tie.Need-enum-told-3 Inv-loop μ-loop
 enum-told-3 c = search needs
@@ -65,10 +65,10 @@ loop-less c = search needs
 
 loop-again : tie.Need-loop-again Inv-loop μ-loop
 loop-again c =
-    let at-free = c .before .before in
-    let at-loop-test = at-free .before in
+    let at-hold = c .before .before in
+    let at-loop-test = at-hold .before in
     let at-loop = at-loop-test .before in
-    (search needs, laws.find-step _ _ _ (at-loop .loop .inv .1) (at-loop-test .loop-test .taken) (told at-free) (c .enum-told3 .given .1))
+    (search needs, laws.find-step _ _ _ (at-loop .loop .inv .1) (at-loop-test .loop-test .taken) (told at-hold) (c .enum-told3 .given .1))
 
 returns-3 : tie.Need-returns-3 Inv-loop μ-loop
 unfolding findOf
@@ -81,7 +81,7 @@ find-spec =
     Inv-loop
     μ-loop
     loop-holds
-    free-requires
+    new-hold-requires
     enum-told
     returns
     enum-told-2

@@ -1,0 +1,155 @@
+//! The plans that are measured, each with its lists of choices.
+
+use crate::plain::{self, Choice};
+use crate::{check, plans};
+
+pub const SMALL: u16 = 256;
+pub const MIDDLE: u16 = 1024;
+pub const LARGE: u16 = 4096;
+pub const SIZES: [u16; 3] = [SMALL, MIDDLE, LARGE];
+
+#[derive(Clone, Copy, PartialEq)]
+pub enum Deferral {
+    None,
+    EveryThird,
+    Long,
+    Chain,
+    OneByOne,
+}
+
+/// How many pipes and lines.
+#[derive(Clone, Copy, PartialEq)]
+pub enum Shape {
+    Wide,
+    Narrow,
+}
+
+#[derive(Clone, Copy, PartialEq)]
+pub enum Order {
+    Random,
+    OneWorker,
+}
+
+/// What is measured, and the order of its choices.
+#[derive(Clone, Copy, PartialEq)]
+pub struct Kind {
+    pub deferral: Deferral,
+    pub shape: Shape,
+    pub tokens: u16,
+    pub order: Order,
+}
+
+pub struct Case {
+    pub kind: Kind,
+    pub file: Vec<u8>,
+    pub workers: u16,
+    pub lists: Vec<Vec<Choice>>,
+}
+
+impl Deferral {
+    pub fn name(self) -> &'static str {
+        match self {
+            Deferral::None => "none",
+            Deferral::EveryThird => "every third token",
+            Deferral::Long => "half, for long",
+            Deferral::Chain => "chain backwards",
+            Deferral::OneByOne => "half, one by one",
+        }
+    }
+}
+
+impl Shape {
+    pub fn name(self) -> &'static str {
+        match self {
+            Shape::Wide => "16 and 32",
+            Shape::Narrow => "1 and 1",
+        }
+    }
+}
+
+impl Order {
+    pub fn name(self) -> &'static str {
+        match self {
+            Order::Random => "random, 32 workers",
+            Order::OneWorker => "one worker",
+        }
+    }
+}
+
+impl Kind {
+    fn plan(self) -> plans::Plan {
+        let plan = match self.deferral {
+            Deferral::None => plans::undeferred(self.tokens),
+            Deferral::EveryThird => plans::every_third(self.tokens),
+            Deferral::Long => plans::long_deferred(self.tokens),
+            Deferral::Chain => plans::chain(self.tokens),
+            Deferral::OneByOne => plans::one_by_one(self.tokens),
+        };
+        match self.shape {
+            Shape::Wide => plan,
+            Shape::Narrow => plans::narrow(plan),
+        }
+    }
+
+    fn case(self) -> Case {
+        let plan = self.plan();
+        let file = plan.file();
+        let (workers, lists) = match self.order {
+            // A processor learns to predict a short list that comes again and again. So small plans
+            // get several, for as many different choices as the large ones.
+            Order::Random => {
+                let seeds = 1..=u32::from(LARGE / self.tokens);
+                (32, seeds.map(|seed| plans::random_order(&file, 32, seed)).collect())
+            }
+            Order::OneWorker => (1, vec![plans::one_worker_order(&file)]),
+        };
+        for choices in &lists {
+            // All tokens are ordered, no choice is refused, and the last one ends the run.
+            assert_eq!(choices.len(), 2 * usize::from(self.tokens) * plan.pipes.len() + 1);
+            let mut run = plain::Run::open(&file, workers);
+            for &choice in choices {
+                assert!(!matches!(run.choose(choice), plain::Answer::Refused(_)));
+            }
+            assert!(run.ended());
+        }
+        Case { kind: self, file, workers, lists }
+    }
+}
+
+impl Case {
+    pub fn choices(&self) -> usize {
+        self.lists.iter().map(Vec::len).sum()
+    }
+
+    pub fn check(&self, mem: &mut [u16]) -> Result<(), String> {
+        let Kind { deferral, shape, tokens, order } = self.kind;
+        let (deferral, shape, order) = (deferral.name(), shape.name(), order.name());
+        for choices in &self.lists {
+            check::same(&self.file, self.workers, choices, mem).map_err(|why| {
+                format!("deferral: {deferral}, pipes and lines: {shape}, N = {tokens}, order: {order}: {why}")
+            })?;
+        }
+        Ok(())
+    }
+}
+
+pub fn all() -> Vec<Case> {
+    let mut kinds = Vec::new();
+    for order in [Order::Random, Order::OneWorker] {
+        let mut wide = |deferral, tokens| {
+            kinds.push(Kind { deferral, shape: Shape::Wide, tokens, order });
+        };
+        SIZES.into_iter().for_each(|tokens| wide(Deferral::None, tokens));
+        wide(Deferral::EveryThird, LARGE);
+        wide(Deferral::Long, LARGE);
+    }
+    // With one line there is one order, but for refused choices.
+    let mut narrow = |deferral, tokens| {
+        kinds.push(Kind { deferral, shape: Shape::Narrow, tokens, order: Order::OneWorker });
+    };
+    for deferral in [Deferral::None, Deferral::Long, Deferral::Chain] {
+        SIZES.into_iter().for_each(|tokens| narrow(deferral, tokens));
+    }
+    narrow(Deferral::OneByOne, LARGE);
+    kinds.into_iter().map(Kind::case).collect()
+}

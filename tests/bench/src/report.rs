@@ -1,0 +1,140 @@
+//! The tables: all times, and the targets.
+
+use crate::cases::{Case, Deferral, Kind, Order, Shape, LARGE, SIZES, SMALL};
+use crate::timing::{Times, POSITIONS};
+use crate::{engine, ROUNDS};
+
+const MOST_RATIO: f64 = 12.0;
+const MOST_GROWTH: f64 = 1.3;
+const MOST_DEFERRED_WIDE: f64 = 1.5;
+const MOST_DEFERRED_NARROW: f64 = 3.0;
+const MOST_DEFERRED_GROWTH: f64 = 2.5;
+const MOST_TO_BEFORE: f64 = 1.05;
+
+pub struct Measured<'a> {
+    pub case: &'a Case,
+    pub engine: Times,
+    /// An older archive of the engine, where one was linked.
+    pub before: Times,
+    pub plain: Times,
+}
+
+pub fn print_times(measured: &[Measured]) {
+    println!(
+        "Whole runs, from the plan file to the checksum of all answers, on 16 pipes (serial and \
+         parallel by turns, pipe 0 serial) and 32 lines, or on one pipe and one line. Times are \
+         nanoseconds for one choice, the opening included. The engine is lent the same memory for \
+         all runs, and only its opening clears it; the plain stepper allocates its own for each \
+         run. {ROUNDS} rounds, in each the sides one after the other, each as often at each of {} \
+         positions of the stack. Ratio: the median of the rounds' ratios. Noise: by how much the \
+         slowest round is above the quickest.\n",
+        POSITIONS.len()
+    );
+    let before = if engine::BEFORE { " before, lowest | to before |" } else { "" };
+    println!(
+        "| deferral | pipes and lines | N | order | choices | engine, median | engine, lowest \
+         | plain, median | plain, lowest | ratio | engine noise | plain noise |{before}"
+    );
+    let before = if engine::BEFORE { "--:|--:|" } else { "" };
+    println!("|---|---|--:|---|--:|--:|--:|--:|--:|--:|--:|--:|{before}");
+    for Measured { case, engine, before, plain } in measured {
+        let Kind { deferral, shape, tokens, order } = case.kind;
+        print!(
+            "| {} | {} | {tokens} | {} | {} | {:.2} | {:.2} | {:.2} | {:.2} | {:.2} | {:.0} % | {:.0} % |",
+            deferral.name(),
+            shape.name(),
+            order.name(),
+            case.lists[0].len(),
+            engine.median(),
+            engine.lowest(),
+            plain.median(),
+            plain.lowest(),
+            engine.ratio_to(plain),
+            engine.noise(),
+            plain.noise(),
+        );
+        if engine::BEFORE {
+            print!(" {:.2} | {:.2} |", before.lowest(), engine.ratio_to(before));
+        }
+        println!();
+    }
+}
+
+fn print_verdict(target: &str, kind: Kind, most: f64, found: f64) {
+    let verdict = if found <= most { "met" } else { "not met" };
+    let (shape, order) = (kind.shape.name(), kind.order.name());
+    println!("| {target} | {shape} | {order} | {most} | {found:.2} | {verdict} |");
+}
+
+pub fn print_verdicts(measured: &[Measured]) {
+    println!("\n| target | pipes and lines | order | at most | measured | verdict |");
+    println!("|---|---|---|--:|--:|---|");
+    let find =
+        |kind: Kind| measured.iter().find(|m| m.case.kind == kind).expect("it is among the cases");
+    for order in [Order::Random, Order::OneWorker] {
+        let none = Kind { deferral: Deferral::None, shape: Shape::Wide, tokens: LARGE, order };
+        print_wide(none, &find);
+    }
+    let order = Order::OneWorker;
+    let none = Kind { deferral: Deferral::None, shape: Shape::Narrow, tokens: LARGE, order };
+    print_narrow(none, &find);
+}
+
+fn print_wide<'a>(none: Kind, find: &impl Fn(Kind) -> &'a Measured<'a>) {
+    let highest = |ratio: fn(&Measured) -> f64| {
+        SIZES.map(|tokens| ratio(find(Kind { tokens, ..none }))).into_iter().fold(0.0, f64::max)
+    };
+    let large = &find(none).engine;
+    let small = &find(Kind { tokens: SMALL, ..none }).engine;
+    print_verdict(
+        "engine / plain without deferral, highest over N",
+        none,
+        MOST_RATIO,
+        highest(|m| m.engine.ratio_to(&m.plain)),
+    );
+    print_verdict(
+        "engine without deferral, N = 4096 / N = 256",
+        none,
+        MOST_GROWTH,
+        large.ratio_to(small),
+    );
+    for deferral in [Deferral::EveryThird, Deferral::Long] {
+        print_verdict(
+            &format!("engine at N = 4096, {} / none", deferral.name()),
+            none,
+            MOST_DEFERRED_WIDE,
+            find(Kind { deferral, ..none }).engine.ratio_to(large),
+        );
+    }
+    if engine::BEFORE {
+        print_verdict(
+            "engine without deferral / before, highest over N",
+            none,
+            MOST_TO_BEFORE,
+            highest(|m| m.engine.ratio_to(&m.before)),
+        );
+    }
+}
+
+fn print_narrow<'a>(none: Kind, find: &impl Fn(Kind) -> &'a Measured<'a>) {
+    for deferral in [Deferral::Long, Deferral::Chain] {
+        let name = deferral.name();
+        for tokens in SIZES {
+            let deferred = Kind { deferral, tokens, ..none };
+            print_verdict(
+                &format!("engine at N = {tokens}, {name} / none"),
+                none,
+                MOST_DEFERRED_NARROW,
+                find(deferred).engine.ratio_to(&find(Kind { tokens, ..none }).engine),
+            );
+        }
+        let large = Kind { deferral, ..none };
+        let small = Kind { tokens: SMALL, ..large };
+        print_verdict(
+            &format!("engine with {name}, N = 4096 / N = 256"),
+            none,
+            MOST_DEFERRED_GROWTH,
+            find(large).engine.ratio_to(&find(small).engine),
+        );
+    }
+}
