@@ -2,7 +2,6 @@
 use crate::moving::move_down;
 use crate::watching;
 use facts::left_hold;
-use tables::Count;
 use tables::DEFERRED;
 use tables::FINISHED_MARK;
 use tables::Hold;
@@ -12,111 +11,112 @@ use tables::Released;
 use tables::STANDINGS;
 use tables::TOKENS;
 use tables::Tables;
+use tables::Tally;
 use tables::WATCHES;
 ghost use mathlib.Core.Path.{_≡_};
 ghost use mathlib.Core.Bool.{true, false};
 ghost use Prim.Native.Nat.{_+_, _-_, _<_, _≤_};
 ghost use lib.ListN.{length, replicate};
 ghost use lib.Seq.{sets, slice};
-ghost use Rattle.rules.specs.Lists.{Below};
+ghost use Rattle.rules.specs.Lists.{keep, Below};
 ghost use Rattle.tables.specs.declared.Tables.{Tables};
 ghost use Rattle.tables.specs.Layout.{deferredAt, watchesAt, readyAt, lent, mostTokens, readyMark, factsOf};
 ghost use Rattle.tables.specs.Facts.{leftHold};
 ghost use Rattle.tables.specs.State.{InRange, marks};
-ghost use Rattle.tables.specs.Releasing.{siftedFrom, tallyOf, renewedFrom, closedBy, movedBy, releaseOf, releasedOf, releasedMemory};
+ghost use Rattle.tables.specs.Releasing.{isHeld, siftedFrom, tallyOf, Unwatched, renewedFrom, closedBy, movedBy, releaseOf, releasedOf, releasedMemory};
 
-// How many of the tokens that watch this one no other number holds.
-fn count_woken(mem: &[u16], tokens: u16, past: u16, held: usize) -> Count
+// Of the tokens that watch this one: how many no other number holds, and how many another does. The first of them is in the cell `first`.
+fn tally(mem: &[u16], tokens: u16, past: u16, first: usize, held: usize) -> Tally
     requires { ⌜ (lent ≤ length (now mem)) × (tokens ≤ mostTokens) ⌝ }
-    requires { ⌜ held ≤ mostTokens ⌝ }
-    ensures { λ r. ⌜ r ≡ tallyOf (leftHold (factsOf (now (mem .entry))) tokens past) 0 (siftedFrom true (now (mem .entry)) deferredAt past 0 held) ⌝ }
+    requires { ⌜ (first ≤ held) × (held ≤ mostTokens) ⌝ }
+    requires { ⌜ Unwatched (now mem) past first ⌝ }
+    ensures { λ r. ⌜ r ≡ tallyOf (leftHold (factsOf (now (mem .entry))) tokens past) 0 0 (siftedFrom true (now (mem .entry)) deferredAt past 0 held) ⌝ }
 {
-    let mut n = 0;
-    let mut cell = 0;
+    let mut woken = 0;
+    let mut kept = 0;
+    let mut cell = first;
     while cell < held {
         let next = watching::next(mem, past, cell, held);
         if next < held {
             match left_hold(mem, tokens, past, mem[DEFERRED + next]) {
-                Hold::Unsound => return Count::Unknown,
+                Hold::Unsound => return Tally::Unsound,
                 Hold::Free => {
-                    n += 1;
+                    woken += 1;
                     cell = next + 1;
                 }
-                Hold::By(_) => cell = next + 1,
+                Hold::By(_) => {
+                    kept += 1;
+                    cell = next + 1;
+                }
             }
         } else {
             cell = next;
         }
     }
-    Count::Known(n)
+    Tally::Known(woken, kept)
 }
 
-// Gives each token that watches this one another number to watch, if another holds it.
-fn renew(mem: &mut [u16], tokens: u16, past: u16, held: usize)
+// Gives each token that watches this one another number to watch, if another holds it; `kept` of them do have one.
+fn renew(mem: &mut [u16], tokens: u16, past: u16, first: usize, held: usize, kept: u16)
     requires { ⌜ (lent ≤ length (now mem)) × (tokens ≤ mostTokens) ⌝ }
-    requires { ⌜ held ≤ mostTokens ⌝ }
+    requires { ⌜ (first ≤ held) × (held ≤ mostTokens) ⌝ }
+    requires { ⌜ Unwatched (now mem) past first ⌝ }
+    requires { ⌜ kept ≡ length (keep (λ t. isHeld (leftHold (factsOf (now mem)) tokens past t)) (siftedFrom true (now mem) deferredAt past 0 held)) ⌝ }
     ensures { λ _. ⌜ now (mem .exit) ≡ sets (now (mem .entry)) watchesAt (renewedFrom (now (mem .entry)) tokens past 0 held) ⌝ }
 {
-    let mut cell = 0;
-    while cell < held {
+    let mut cell = first;
+    let mut left = kept;
+    while 0 < left {
         let next = watching::next(mem, past, cell, held);
-        if next < held {
-            let token = mem[DEFERRED + next];
-            match left_hold(mem, tokens, past, token) {
-                Hold::Unsound => cell = next + 1,
-                Hold::Free => cell = next + 1,
-                Hold::By(number) => {
-                    mem[WATCHES + next] = number;
-                    cell = next + 1;
-                }
+        let token = mem[DEFERRED + next];
+        match left_hold(mem, tokens, past, token) {
+            Hold::Unsound => cell = next + 1,
+            Hold::Free => cell = next + 1,
+            Hold::By(number) => {
+                mem[WATCHES + next] = number;
+                left -= 1;
+                cell = next + 1;
             }
-        } else {
-            cell = next;
         }
     }
 }
 
-// Stores the tokens that watch this one behind the ready queue, from the cell `from` on.
-fn queue_woken(mem: &mut [u16], past: u16, held: usize, from: usize)
-    requires { ⌜ (lent ≤ length (now mem)) × (held ≤ mostTokens) ⌝ }
-    requires { ⌜ (readyAt ≤ from) × (from + length (siftedFrom true (now mem) deferredAt past 0 held) ≤ lent) ⌝ }
+// Stores the tokens that watch this one in the cells from `from` up to `to`, behind the ready queue.
+fn queue_woken(mem: &mut [u16], past: u16, first: usize, held: usize, from: usize, to: usize)
+    requires { ⌜ (lent ≤ length (now mem)) × ((first ≤ held) × (held ≤ mostTokens)) ⌝ }
+    requires { ⌜ Unwatched (now mem) past first ⌝ }
+    requires { ⌜ (readyAt ≤ from) × ((to ≤ lent) × (to ≡ from + length (siftedFrom true (now mem) deferredAt past 0 held))) ⌝ }
     ensures { λ _. ⌜ now (mem .exit) ≡ sets (now (mem .entry)) from (siftedFrom true (now (mem .entry)) deferredAt past 0 held) ⌝ }
 {
+    let mut cell = first;
     let mut at = from;
-    let mut cell = 0;
-    while cell < held {
+    while at < to {
         let next = watching::next(mem, past, cell, held);
-        if next < held {
-            let token = mem[DEFERRED + next];
-            mem[at] = token;
-            at += 1;
-            cell = next + 1;
-        } else {
-            cell = next;
-        }
+        let token = mem[DEFERRED + next];
+        mem[at] = token;
+        at += 1;
+        cell = next + 1;
     }
 }
 
-// Closes up those numbers of a part in step with the watches whose watches are not this one, and returns where they end.
-fn close_part(mem: &mut [u16], part: usize, past: u16, held: usize) -> usize
-    requires { ⌜ (lent ≤ length (now mem)) × (held ≤ mostTokens) ⌝ }
-    requires { ⌜ part ≤ watchesAt ⌝ }
-    ensures end { λ r. ⌜ r ≡ part + length (siftedFrom false (now (mem .entry)) part past 0 held) ⌝ }
-    ensures memory { λ _. ⌜ now (mem .exit) ≡ sets (now (mem .entry)) part (siftedFrom false (now (mem .entry)) part past 0 held) ⌝ }
+// Closes up those numbers of a part in step with the watches whose watches are not this one. The watches of `n` others are.
+fn close_part(mem: &mut [u16], part: usize, past: u16, first: usize, held: usize, n: u16)
+    requires { ⌜ (lent ≤ length (now mem)) × ((first ≤ held) × (held ≤ mostTokens)) ⌝ }
+    requires { ⌜ (part ≤ watchesAt) × (n ≡ length (siftedFrom true (now mem) part past 0 held)) ⌝ }
+    requires { ⌜ Unwatched (now mem) past first ⌝ }
+    ensures { λ _. ⌜ now (mem .exit) ≡ sets (now (mem .entry)) part (siftedFrom false (now (mem .entry)) part past 0 held) ⌝ }
 {
-    let mut at = part;
-    let mut cell = 0;
-    while cell < held {
+    let mut at = part + first;
+    let mut cell = first;
+    let mut left = n;
+    while 0 < left {
         let next = watching::next(mem, past, cell, held);
         move_down(mem, part + cell, part + next, at);
         at += next - cell;
-        if next < held {
-            cell = next + 1;
-        } else {
-            cell = next;
-        }
+        cell = next + 1;
+        left -= 1;
     }
-    at
+    move_down(mem, part + cell, part + held, at);
 }
 
 // Clears the cells from `from` up to `to`.
@@ -145,66 +145,69 @@ fn mark_ready(mem: &mut [u16], from: usize, to: usize)
     }
 }
 
-// Closes up the tokens that do not watch this one, with their watches, and returns how many they are.
-fn close_up(mem: &mut [u16], past: u16, held: usize) -> usize
-    requires { ⌜ (lent ≤ length (now mem)) × (held ≤ mostTokens) ⌝ }
-    ensures answer { λ r. ⌜ r ≡ length (siftedFrom false (now (mem .entry)) deferredAt past 0 held) ⌝ }
-    ensures memory { λ _. ⌜ now (mem .exit) ≡ closedBy (now (mem .entry)) held (siftedFrom false (now (mem .entry)) deferredAt past 0 held) (siftedFrom false (now (mem .entry)) watchesAt past 0 held) ⌝ }
+// Closes up the tokens that do not watch this one, with their watches; `n` others do.
+fn close_up(mem: &mut [u16], past: u16, first: usize, held: usize, n: u16)
+    requires { ⌜ (lent ≤ length (now mem)) × ((first ≤ held) × (held ≤ mostTokens)) ⌝ }
+    requires { ⌜ n ≡ length (siftedFrom true (now mem) deferredAt past 0 held) ⌝ }
+    requires { ⌜ Unwatched (now mem) past first ⌝ }
+    ensures { λ _. ⌜ now (mem .exit) ≡ closedBy (now (mem .entry)) held (siftedFrom false (now (mem .entry)) deferredAt past 0 held) (siftedFrom false (now (mem .entry)) watchesAt past 0 held) ⌝ }
 {
-    let end = close_part(mem, DEFERRED, past, held);
-    close_part(mem, WATCHES, past, held);
-    let kept = end - DEFERRED;
-    clear(mem, end, DEFERRED + held);
+    close_part(mem, DEFERRED, past, first, held, n);
+    close_part(mem, WATCHES, past, first, held, n);
+    let kept = held - (n as usize);
+    clear(mem, DEFERRED + kept, DEFERRED + held);
     clear(mem, WATCHES + kept, WATCHES + held);
-    kept
 }
 
 // Moves the tokens that still watch this one, `n` of them, to the ready queue, which has room for them.
-fn move_woken(mem: &mut [u16], t: Tables, past: u16, n: u16) -> Tables
+fn move_woken(mem: &mut [u16], t: Tables, past: u16, first: usize, n: u16) -> Tables
     requires { ⌜ InRange t ⌝ }
     requires { ⌜ (lent ≤ length (now mem)) × (past < t .tokens) ⌝ }
+    requires { ⌜ (first ≤ t .held) × Unwatched (now mem) past first ⌝ }
     requires { ⌜ (n ≡ length (siftedFrom true (now mem) deferredAt past 0 (t .held))) × (t .end + n ≤ mostTokens) ⌝ }
     requires { ⌜ Below mostTokens (siftedFrom true (now mem) deferredAt past 0 (t .held)) ⌝ }
     ensures answer { λ r. ⌜ _≡_ {A = Tables} r (record { tokens = t .tokens; count = t .count; first = t .first; end = t .end + n; held = length (siftedFrom false (now (mem .entry)) deferredAt past 0 (t .held)) }) ⌝ }
     ensures memory { λ _. ⌜ now (mem .exit) ≡ movedBy (now (mem .entry)) (t .end) (t .held) past (siftedFrom true (now (mem .entry)) deferredAt past 0 (t .held)) (siftedFrom false (now (mem .entry)) deferredAt past 0 (t .held)) (siftedFrom false (now (mem .entry)) watchesAt past 0 (t .held)) ⌝ }
 {
     let held = t.held as usize;
-    let end = READY + (t.end as usize);
-    queue_woken(mem, past, held, end);
-    let kept = close_up(mem, past, held);
-    mark_ready(mem, end, end + (n as usize));
+    let from = READY + (t.end as usize);
+    let to = from + (n as usize);
+    queue_woken(mem, past, first, held, from, to);
+    close_up(mem, past, first, held, n);
+    mark_ready(mem, from, to);
     mem[STANDINGS + (past as usize)] = FINISHED_MARK;
     Tables {
         tokens: t.tokens,
         count: t.count,
         first: t.first,
         end: t.end + n,
-        held: kept as u16,
+        held: t.held - n,
     }
 }
 
-// A token that others watch finishes pipe 0.
-fn release_watched(mem: &mut [u16], t: Tables, past: u16) -> Released
+// A token that others watch finishes pipe 0. The first of them is in the cell `first`.
+fn release_watched(mem: &mut [u16], t: Tables, past: u16, first: usize) -> Released
     requires { ⌜ InRange t ⌝ }
     requires { ⌜ (lent ≤ length (now mem)) × (past < t .tokens) ⌝ }
+    requires { ⌜ (first ≤ t .held) × Unwatched (now mem) past first ⌝ }
     ensures answer { λ r. ⌜ r ≡ releasedOf (releaseOf t past (now (mem .entry))) ⌝ }
     ensures memory { λ _. ⌜ now (mem .exit) ≡ releasedMemory (now (mem .entry)) (releaseOf t past (now (mem .entry))) ⌝ }
 {
     let held = t.held as usize;
-    let found = count_woken(mem, t.tokens, past, held);
-    let Count::Known(n) = found else {
+    let found = tally(mem, t.tokens, past, first, held);
+    let Tally::Known(woken, kept) = found else {
         return Released::Broken;
     };
-    if TOKENS - t.end < n {
+    if TOKENS - t.end < woken {
         return Released::Broken;
     }
-    renew(mem, t.tokens, past, held);
-    // Many finishes wake no token: then nothing moves.
-    if n == 0 {
+    renew(mem, t.tokens, past, first, held, kept);
+    // Where no token wakes nothing moves.
+    if woken == 0 {
         mem[STANDINGS + (past as usize)] = FINISHED_MARK;
         return Released::Passed(t);
     }
-    Released::Passed(move_woken(mem, t, past, n))
+    Released::Passed(move_woken(mem, t, past, first, woken))
 }
 
 // A token finishes pipe 0: its waiters lose it, and those with none left become ready.
@@ -218,8 +221,9 @@ pub(crate) fn release(mem: &mut [u16], t: Tables, past: u16) -> Released
         return Released::Broken;
     }
     let held = t.held as usize;
-    if watching::next(mem, past, 0, held) < held {
-        return release_watched(mem, t, past);
+    let first = watching::next(mem, past, 0, held);
+    if first < held {
+        return release_watched(mem, t, past, first);
     }
     // Most tokens are watched by none: then only the standing changes.
     mem[STANDINGS + (past as usize)] = FINISHED_MARK;

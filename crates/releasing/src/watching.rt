@@ -8,7 +8,7 @@ ghost use lib.ListN.{length};
 ghost use lib.Seq.{slice};
 ghost use Rattle.rules.specs.Lists.{if, has};
 ghost use Rattle.tables.specs.Layout.{lent, mostTokens};
-ghost use Rattle.tables.specs.Releasing.{Next};
+ghost use Rattle.tables.specs.Releasing.{nextFrom};
 
 // How many cells are compared together.
 const BLOCK: usize = 64;
@@ -37,7 +37,7 @@ fn in_block(mem: &[u16], at: usize, number: u16) -> bool
 // The first cell from `from` on that watches a number, or `held`, one cell after the other.
 fn walk(mem: &[u16], number: u16, from: usize, held: usize) -> usize
     requires { ⌜ (lent ≤ length (now mem)) × ((from ≤ held) × (held ≤ mostTokens)) ⌝ }
-    ensures { λ r. ⌜ Next (now (mem .entry)) number from held r ⌝ }
+    ensures { λ r. ⌜ r ≡ nextFrom (now (mem .entry)) number from held ⌝ }
 {
     let mut cell = from;
     while cell < held {
@@ -52,7 +52,7 @@ fn walk(mem: &[u16], number: u16, from: usize, held: usize) -> usize
 // The first cell from `from` on that watches a number, or `held`. (A block may reach behind the table: what it has there is no cell.)
 pub(crate) fn next(mem: &[u16], number: u16, from: usize, held: usize) -> usize
     requires { ⌜ (lent ≤ length (now mem)) × ((from ≤ held) × (held ≤ mostTokens)) ⌝ }
-    ensures { λ r. ⌜ Next (now (mem .entry)) number from held r ⌝ }
+    ensures { λ r. ⌜ r ≡ nextFrom (now (mem .entry)) number from held ⌝ }
 {
     let mut cell = from;
     while cell < held {

@@ -2,7 +2,7 @@
 use mathlib.Core.Path.{_≡_}
 use mathlib.Core.Bool.{Bool, true, false, not}
 use mathlib.Core.List.{List, [], _∷_}
-use Prim.Native.Nat.{ℕ, _+_, _-_, _<_, _≤_}
+use Prim.Native.Nat.{ℕ, suc, _+_, _-_, _<_}
 use lib.Dec.{leb, eqb}
 use lib.ListN.{length, getD, set, replicate}
 use lib.Seq.{sets, slice}
@@ -11,13 +11,16 @@ use Rattle.rules.specs.Sources.{Released as Outcome, Broken, Passed}
 use Rattle.tables.specs.declared.Tables.{Tables}
 use Rattle.tables.specs.declared.Released.{Released}
 use Rattle.tables.specs.declared.Hold.{Hold}
-use Rattle.tables.specs.declared.Count.{Count}
+use Rattle.tables.specs.declared.Tally.{Tally}
 use Rattle.tables.specs.Layout.{standingAt, deferredAt, watchesAt, readyAt, mostTokens, readyMark, finishedMark, factsOf}
 use Rattle.tables.specs.Facts.{byHold, leftHold}
 use Rattle.tables.specs.State.{State, marks, tableOf, watchesOf}
 
 abbrev pub isFree : Hold → Bool
 isFree x = byHold x false true (λ n. false)
+
+abbrev pub isHeld : Hold → Bool
+isHeld x = byHold x false false (λ n. true)
 
 abbrev pub isUnsound : Hold → Bool
 isUnsound x = byHold x true false (λ n. false)
@@ -37,18 +40,25 @@ abbrev pub siftedFrom : Bool → List ℕ → ℕ → ℕ → ℕ → ℕ → Li
 siftedFrom watching m base d cell held =
     pick (watches watching d) (slice (base + cell) (base + held) m) (slice (watchesAt + cell) (watchesAt + held) m)
 
--- the first cell from one on whose watch is this number, or `held` where there is none
-pub record Next (m : List ℕ) (d cell held found : ℕ) : Type 0 where
-  pub from : cell ≤ found
-  pub upto : found ≤ held
-  pub none : (i : ℕ) → cell ≤ i → i < found → getD m (watchesAt + i) 0 ≡ d → ⊥
-  pub hit : found < held → getD m (watchesAt + found) 0 ≡ d
+-- the first of some cells, the watches of which are given and the first of which is `cell`, whose watch is this number;
+-- the one after them where there is none
+unfoldable pub nextIn : ℕ → ℕ → List ℕ → ℕ
+nextIn d cell [] = cell
+nextIn d cell (w ∷ ws) = if (eqb w d) cell (nextIn d (suc cell) ws)
 
--- of the tokens that watch this number: n more than those that nothing holds without it, unless a record is bad
-unfoldable pub tallyOf : (ℕ → Hold) → ℕ → List ℕ → Count
-tallyOf hold n ts =
-    mustNot (any (λ t. isUnsound (hold t)) ts) Count.Unknown
-    (Count.Known (n + length (keep (λ t. isFree (hold t)) ts)))
+abbrev pub nextFrom : List ℕ → ℕ → ℕ → ℕ → ℕ
+nextFrom m d cell held = nextIn d cell (slice (watchesAt + cell) (watchesAt + held) m)
+
+-- no cell before this one watches the number
+abbrev pub Unwatched : List ℕ → ℕ → ℕ → Type 0
+Unwatched m d cell = (i : ℕ) → i < cell → getD m (watchesAt + i) 0 ≡ d → ⊥
+
+-- of the tokens that watch this number: n more than those that nothing holds without it, and k more than those that another number
+-- holds, unless a record is bad
+unfoldable pub tallyOf : (ℕ → Hold) → ℕ → ℕ → List ℕ → Tally
+tallyOf hold n k ts =
+    mustNot (any (λ t. isUnsound (hold t)) ts) Tally.Unsound
+    (Tally.Known (n + length (keep (λ t. isFree (hold t)) ts)) (k + length (keep (λ t. isHeld (hold t)) ts)))
 
 -- the watch of a token after the finish of d: another where it watches d and another number holds it, else as before
 unfoldable pub newWatch : (ℕ → Hold) → ℕ → ℕ → ℕ → ℕ

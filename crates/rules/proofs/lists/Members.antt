@@ -108,3 +108,9 @@ pub length-range : (i k : ℕ) → length (range i k) ≡ k
 unfolding range
 length-range i zero = refl
 length-range i (suc k) = ap suc (length-range (suc i) k)
+
+-- at most all elements pass
+pub keep-most : {A : Type 0} (p : A → Bool) (l : List A) → length (keep p l) ≤ length l
+unfolding keep
+keep-most p [] = omega arith
+keep-most p (a ∷ l) = by-test (p a) (λ e. rw e (omega (arith, keep-most p l))) (λ e. rw e (omega (arith, keep-most p l)))

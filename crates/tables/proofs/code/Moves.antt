@@ -6,21 +6,23 @@ use Prim.Native.Nat.{ℕ, _+_, _-_, _<_, _≤_}
 use native.Mathlib.Omega.{arith}
 use native.Mathlib.Nat.{add-zero}
 use lib.Dec.{eqb}
-use lib.ListN.{length, set, take, drop, replicate, length-replicate}
-use lib.Seq.{sets, slice, length-sets, length-slice}
-use Rattle.rules.specs.Lists.{Below}
+use lib.ListN.{length, getD, set, take, drop, replicate, length-replicate}
+use lib.Seq.{sets, slice, length-sets, length-slice, getD-drop, getD-take}
+use Rattle.rules.specs.Lists.{keep, Below}
 use Rattle.rules.proofs.lists.Members.{below-mono, below-keep}
 use Rattle.tables.specs.declared.Tables.{Tables}
 use Rattle.tables.specs.declared.Hold.{Hold}
 use Rattle.tables.specs.declared.Released.{Released}
 use Rattle.tables.specs.Facts.{leftHold}
 use Rattle.tables.specs.State.{InRange, marks, tableOf, watchesOf}
-use Rattle.tables.specs.Releasing.{isFree, pick, siftedFrom, renewedIn, watchersIn, wokenIn, stayingIn, watchingIn, unsoundIn, closedBy, movedBy, movedTables, movedMemory, releaseOf, Next}
-use Rattle.tables.proofs.memory.Cells.{drop-sets, slice-before, slice-sets, sets-slice}
+use Rattle.tables.specs.Releasing.{isFree, pick, siftedFrom, renewedIn, watchersIn, wokenIn, stayingIn, watchingIn, unsoundIn, closedBy, movedBy, movedTables, movedMemory, releaseOf, Unwatched}
+use Rattle.tables.proofs.memory.Cells.{cell-below, cell-from, take-sets, drop-sets, slice-before, slice-sets, sets-slice}
 use Rattle.tables.proofs.memory.MemoryLaws.{slice-same}
 use Rattle.tables.proofs.memory.FactsLaws.{left-by, left-low}
-use Rattle.tables.proofs.memory.PickLaws.{pick-most, pick-same, pick-none, length-new, new-none, still-watching, watching-below}
-use Rattle.tables.proofs.code.ReleasingLaws.{Gives, watchers-skip, sifted-end, tally-nobody, release-moved}
+use Rattle.tables.proofs.memory.PickLaws.{pick-most, pick-same, pick-none, length-new, new-unheld, new-apart, still-watching, watching-below}
+use Rattle.tables.proofs.code.ScanLaws.{Next}
+use Rattle.tables.proofs.code.SiftLaws.{sifted-end, watchers-skip, stay-count}
+use Rattle.tables.proofs.code.ReleasingLaws.{Gives, tally-nobody, release-moved}
 
 -- nothing moves where none wakes and all stay, over plain variables: the lists of a release are long to compare
 same-tables : (t : Tables) {woken staying : ℕ} → woken ≡ 0 → staying ≡ t .held
@@ -73,6 +75,16 @@ module _ (t : Tables) (d : ℕ) (m : List ℕ) (ok : InRange t) (whole : 32768 �
         let ends : 24576 + t .held ≡ 24576 + length (renewedIn t d m) = omega (arith, renewed-length) in
         ap (slice 24576 (24576 + t .held)) renewed ∙ ap (λ e. slice 24576 e (sets m 24576 (renewedIn t d m))) ends
         ∙ slice-sets (renewedIn t d m) m 24576 (omega (arith, renewed-length, ok .held))
+
+    -- the cells before the first that watched the token do not watch it now
+    pub renewed-unwatched : {first : ℕ} → first ≤ t .held → Unwatched m d first → Unwatched m₁ d first
+    renewed-unwatched h none i below same =
+        new-apart hold d (tableOf t m) (watchesOf t m) i (watches-length ∙ sym table-length) (omega (arith, watches-length))
+        (λ e. none i below (sym (watch-in m i (omega arith)) ∙ e))
+        (ap (λ (l : List ℕ). getD l i 0) (sym renewed-watches) ∙ watch-in m₁ i (omega arith) ∙ same)
+      where
+        watch-in : (l : List ℕ) (i : ℕ) → i < t .held → getD (slice 24576 (24576 + t .held) l) i 0 ≡ getD l (24576 + i) 0
+        watch-in l i below = getD-drop 24576 (take (24576 + t .held) l) i 0 ∙ getD-take (24576 + t .held) l (24576 + i) 0 (omega arith)
 
     woken-same : siftedFrom true m₁ 20480 d 0 (t .held) ≡ wokenIn t d m
     woken-same = ap₂ (λ xs ws. pick (λ w. eqb w d) xs ws) renewed-table renewed-watches
@@ -131,8 +143,9 @@ module _ (t : Tables) (d : ℕ) (m : List ℕ) (ok : InRange t) (whole : 32768 �
   -- where no token watches it all watches are as before
   module _ (nobody : siftedFrom true m 20480 d 0 (t .held) ≡ []) where
     pub nobody-renewed : m ≡ sets m 24576 (renewedIn t d m)
+    unfolding keep
     nobody-renewed =
-        let same : renewedIn t d m ≡ watchesOf t m = new-none hold d (tableOf t m) (watchesOf t m) (watches-length ∙ sym table-length) (ap length nobody) in
+        let same : renewedIn t d m ≡ watchesOf t m = new-unheld hold d (tableOf t m) (watchesOf t m) (watches-length ∙ sym table-length) (rw nobody) in
         sym (rw same (sets-slice m 24576 (t .held) (omega (arith, ok .held))))
 
     pub nobody-woken : length (wokenIn t d m) ≡ 0
@@ -142,7 +155,7 @@ module _ (t : Tables) (d : ℕ) (m : List ℕ) (ok : InRange t) (whole : 32768 �
   pub release-nobody : d < t .tokens → {r : ℕ} → Next m d 0 (t .held) r → t .held ≤ r → Gives m (releaseOf t d m) (Released.Passed t) (set m (16384 + d) 3)
   release-nobody inside next none =
       let nobody : siftedFrom true m 20480 d 0 (t .held) ≡ [] =
-      watchers-skip m d (t .held) whole (ok .held) next ∙ sifted-end true m 20480 d _ (t .held) (next .upto) none in
+      watchers-skip m 20480 d (t .held) (omega (arith, ok .held)) (omega (arith, ok .held)) next ∙ sifted-end true m 20480 d _ (t .held) (next .upto) none in
       release-moved t d m inside refl (tally-nobody hold nobody) (omega (arith, ok .end))
       (none-tables {m₁ = m} (nobody-renewed nobody) (nobody-woken nobody)) (none-memory {m₁ = m} (nobody-renewed nobody) (nobody-woken nobody))
 
@@ -152,8 +165,12 @@ module _ (m : List ℕ) (d held : ℕ) (whole : 32768 ≤ length m) (most : held
   stay-length = omega
       (arith, pick-most (λ w. not (eqb w d)) (slice 20480 (20480 + held) m) (slice 24576 (24576 + held) m), length-slice 20480 (20480 + held) m (omega arith))
 
-  pub kept-within : {kept : ℕ} → kept ≡ 20480 + length (siftedFrom false m 20480 d 0 held) → (20480 ≤ kept) × (kept ≤ 20480 + held)
-  kept-within e = omega (arith, stay-length)
+  pub watchers-most : {n : ℕ} → n ≡ length (siftedFrom true m 20480 d 0 held) → n ≤ held
+  watchers-most n-is = omega (arith, stay-count m 20480 d held (omega arith) (omega arith) {cell = 0} (omega arith))
+
+  -- as many as do not watch it
+  pub stay-is : {n : ℕ} → n ≡ length (siftedFrom true m 20480 d 0 held) → held - n ≡ length (siftedFrom false m 20480 d 0 held)
+  stay-is n-is = omega (arith, stay-count m 20480 d held (omega arith) (omega arith) {cell = 0} (omega arith))
 
   module _ {m₁ : List ℕ} (closed : m₁ ≡ sets m 20480 (siftedFrom false m 20480 d 0 held)) where
     pub closed-length : length m₁ ≡ length m
@@ -168,16 +185,28 @@ module _ (m : List ℕ) (d held : ℕ) (whole : 32768 ≤ length m) (most : held
     watching-kept : siftedFrom false m₁ 24576 d 0 held ≡ siftedFrom false m 24576 d 0 held
     watching-kept = ap (λ ws. pick (λ w. not (eqb w d)) ws ws) watches-kept
 
-    pub closed-up : {kept k : ℕ} {m₂ m₃ m₄ : List ℕ} → kept ≡ 20480 + length (siftedFrom false m 20480 d 0 held) → k ≡ kept - 20480
+    -- the watches are there for the second part: their cells, and as many of them are the number
+    pub closed-unwatched : {first : ℕ} → first ≤ held → Unwatched m d first → Unwatched m₁ d first
+    closed-unwatched h none i below same =
+        none i below (sym (cell-from m m₁ 24576 (24576 + i) (ap (drop 24576) closed ∙ drop-sets (siftedFrom false m 20480 d 0 held) m 20480 24576 (omega (arith, stay-length))) (omega arith)) ∙ same)
+
+    pub closed-count : {n : ℕ} → n ≡ length (siftedFrom true m 20480 d 0 held) → n ≡ length (siftedFrom true m₁ 24576 d 0 held)
+    closed-count n-is =
+        n-is
+        ∙ pick-same (λ w. eqb w d) (slice 20480 (20480 + held) m) (slice 24576 (24576 + held) m) (slice 24576 (24576 + held) m)
+        (omega (arith, length-slice 20480 (20480 + held) m (omega arith), length-slice 24576 (24576 + held) m (omega arith)))
+        ∙ sym (ap (λ ws. length (pick (λ w. eqb w d) ws ws)) watches-kept)
+
+    pub closed-up : {n kept : ℕ} {m₂ m₃ m₄ : List ℕ} → n ≡ length (siftedFrom true m 20480 d 0 held) → kept ≡ held - n
         → m₂ ≡ sets m₁ 24576 (siftedFrom false m₁ 24576 d 0 held)
-        → m₃ ≡ sets m₂ kept (replicate (20480 + held - kept) 0) → m₄ ≡ sets m₃ (24576 + k) (replicate (24576 + held - (24576 + k)) 0)
-        → (k ≡ length (siftedFrom false m 20480 d 0 held)) × (m₄ ≡ closedBy m held (siftedFrom false m 20480 d 0 held) (siftedFrom false m 24576 d 0 held))
-    closed-up {kept} {k} kept-is k-is e₂ e₃ e₄ =
-        let n : ℕ = length (siftedFrom false m 20480 d 0 held) in
-        let k-n : k ≡ n = omega arith in
-        let rest : 20480 + held - (20480 + n) ≡ held - n = omega arith in
-        let rest′ : 24576 + held - (24576 + n) ≡ held - n = omega arith in
-        (k-n, rw (e₄, e₃, e₂, k-n, kept-is, rest, rest′, watching-kept, closed))
+        → m₃ ≡ sets m₂ (20480 + kept) (replicate (20480 + held - (20480 + kept)) 0) → m₄ ≡ sets m₃ (24576 + kept) (replicate (24576 + held - (24576 + kept)) 0)
+        → m₄ ≡ closedBy m held (siftedFrom false m 20480 d 0 held) (siftedFrom false m 24576 d 0 held)
+    closed-up {n} {kept} n-is kept-is e₂ e₃ e₄ =
+        let k : ℕ = length (siftedFrom false m 20480 d 0 held) in
+        let kept-k : kept ≡ k = kept-is ∙ stay-is n-is in
+        let rest : 20480 + held - (20480 + k) ≡ held - k = omega arith in
+        let rest′ : 24576 + held - (24576 + k) ≡ held - k = omega arith in
+        rw (e₄, e₃, e₂, kept-k, rest, rest′, watching-kept, closed)
 
 -- moving the woken, from the memory with the watches renewed
 module _ (m : List ℕ) (end d held : ℕ) (whole : 32768 ≤ length m) (most : held ≤ 4096) {n : ℕ} (n-is : n ≡ length (siftedFrom true m 20480 d 0 held))
@@ -193,6 +222,16 @@ module _ (m : List ℕ) (end d held : ℕ) (whole : 32768 ≤ length m) (most : 
 
   queued-watching : siftedFrom false m₁ 24576 d 0 held ≡ siftedFrom false m 24576 d 0 held
   queued-watching = ap (λ ws. pick (λ w. not (eqb w d)) ws ws) (queued-slice 24576 (omega arith))
+
+  queued-woken : siftedFrom true m₁ 20480 d 0 held ≡ siftedFrom true m 20480 d 0 held
+  queued-woken = ap₂ (λ xs ws. pick (λ w. eqb w d) xs ws) (queued-slice 20480 (omega arith)) (queued-slice 24576 (omega arith))
+
+  pub queued-count : n ≡ length (siftedFrom true m₁ 20480 d 0 held)
+  queued-count = n-is ∙ sym (ap length queued-woken)
+
+  pub queued-unwatched : {first : ℕ} → first ≤ held → Unwatched m d first → Unwatched m₁ d first
+  queued-unwatched h none i below same =
+      none i below (sym (cell-below m m₁ 28672 (24576 + i) (ap (take 28672) queued ∙ take-sets (siftedFrom true m 20480 d 0 held) m (28672 + end) 28672 (omega arith)) (omega arith)) ∙ same)
 
   module _ {m₂ : List ℕ} (closed : m₂ ≡ closedBy m₁ held (siftedFrom false m₁ 20480 d 0 held) (siftedFrom false m₁ 24576 d 0 held)) where
     closed-behind : drop 28672 m₂ ≡ drop 28672 m₁

@@ -8,9 +8,8 @@ use native.Mathlib.Decide.{decLt}
 use native.Mathlib.Numerals.{add-one}
 use lib.ListN.{length, getD, set, take, drop, length-set, drop-of-length-le}
 use lib.Seq.{sets, slice, length-sets, length-slice, length-take-le, take-add, drop-append-le, drop-set-lt, drop-cons, getD-take, getD-drop, getD-set-same, getD-set-other, ext-getD}
-use Rattle.tables.proofs.memory.Cells.{cell-from, drop-more, drop-sets, slice-from, sets-slice, sets-store, sets-none}
+use Rattle.tables.proofs.memory.Cells.{cell-from, drop-more, drop-sets, slice-from, sets-slice, sets-store, sets-none, cells-next, cells-end}
 use Rattle.tables.proofs.memory.MemoryLaws.{slice-same}
-use Rattle.tables.proofs.code.ReleasingLaws.{cells-next, cells-end}
 
 -- a list stored in two parts
 pub sets-append : (xs ys m : List ℕ) (i : ℕ) → sets m i (xs ++ ys) ≡ sets (sets m i xs) (i + length xs) ys

@@ -1,4 +1,4 @@
--- Spans of tokens, runs of stores and marks, one step at a time, and what they leave alone.
+-- Spans of tokens, runs of stores and marks, and walks over cells, one step at a time; and what stores leave alone.
 use mathlib.Core.Path.{_≡_, refl, sym, ap, _∙_}
 use mathlib.Core.List.{List, [], _∷_, _++_}
 use Prim.Native.Nat.{ℕ, suc, _+_, _-_, _<_, _≤_}
@@ -6,7 +6,7 @@ use native.Mathlib.Omega.{arith}
 use native.Mathlib.Numerals.{add-one}
 use lib.ListN.{length, getD, take, drop, set, replicate, length-append, take-append-drop}
 use lib.Seq.{length-take-le, length-slice, sets, sets-eq, slice, take-set-le, drop-set-lt, take-take, drop-drop, take-add, take-at, drop-at}
-use lib.Seq.{getD-take, getD-drop}
+use lib.Seq.{getD-take, getD-drop, slice-cons, slice-empty}
 use Rattle.tables.specs.Layout.{standingAt}
 use Rattle.tables.specs.State.{span, marks}
 use Rattle.rules.specs.Lists.{range}
@@ -118,3 +118,20 @@ pub sets-slice : (m : List ℕ) (i n : ℕ) → i + n ≤ length m → sets m i 
 sets-slice m i n h =
     let long : length (slice i (i + n) m) ≡ n = length-slice i (i + n) m h ∙ omega arith in
     rw (sets-eq (slice i (i + n) m) m i (omega arith), long, slice-from m i n (omega arith), ← take-add i n m) (take-append-drop (i + n) m)
+
+-- a walk over the cells from one up to another: none is left from the end on, and before it the next one comes first
+pub cells-end : (m : List ℕ) (cell last : ℕ) → cell ≤ last → last ≤ cell → slice cell last m ≡ []
+cells-end m cell last l h = let e : cell ≡ last = omega arith in rw e (slice-empty last m)
+
+pub cells-next : (m : List ℕ) (cell last : ℕ) → cell < last → last ≤ length m → slice cell last m ≡ getD m cell 0 ∷ slice (cell + 1) last m
+cells-next m cell last h l = rw (add-one cell) (slice-cons cell last m 0 h l)
+
+-- the same over the cells of a part, from one up to another of those that begin at `base`: none is left from the end on, and before it the next one comes first
+module _ (m : List ℕ) (base cell held : ℕ) where
+  pub row-end : cell ≤ held → held ≤ cell → slice (base + cell) (base + held) m ≡ []
+  row-end l h = let e : cell ≡ held = omega arith in rw e (slice-empty (base + held) m)
+
+  pub row-next : cell < held → base + held ≤ length m → slice (base + cell) (base + held) m ≡ getD m (base + cell) 0 ∷ slice (base + (cell + 1)) (base + held) m
+  row-next h l =
+      let e : suc (base + cell) ≡ base + (cell + 1) = omega arith in
+      rw (← e) (slice-cons (base + cell) (base + held) m 0 (omega arith) l)

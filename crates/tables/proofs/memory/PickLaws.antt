@@ -1,16 +1,17 @@
 -- What is picked from a list by a list in step with it, and the watches after a finish: their lengths, and numbers below a bound.
-use mathlib.Core.Path.{_≡_, refl, sym, ap}
+use mathlib.Core.Path.{_≡_, refl, sym, ap, _∙_}
 use mathlib.Core.Bool.{Bool, true, false, not, true≢false}
 use mathlib.Core.List.{List, [], _∷_}
-use Prim.Native.Nat.{ℕ, _+_, _<_, _≤_}
+use Prim.Native.Nat.{ℕ, zero, suc, _+_, _<_, _≤_}
 use native.Mathlib.Omega.{arith}
 use lib.Dec.{eqb}
-use lib.ListN.{length}
+use borrow.Author.Tests.{ne-eqb}
+use lib.ListN.{length, getD}
 use Rattle.rules.specs.Lists.{if, any, keep, Below}
 use Rattle.rules.proofs.lists.Tests.{by-test}
 use Rattle.tables.specs.declared.Hold.{Hold}
 use Rattle.tables.specs.Facts.{byHold}
-use Rattle.tables.specs.Releasing.{isFree, isUnsound, pick, newWatch, newWatches}
+use Rattle.tables.specs.Releasing.{isFree, isHeld, isUnsound, pick, newWatch, newWatches}
 
 module _ (p : ℕ → Bool) where
   -- at most all are picked, and what is picked from numbers below a bound is below it
@@ -63,20 +64,35 @@ length-new hold d (t ∷ ts) [] e = absurd (omega arith)
 length-new hold d (t ∷ ts) (w ∷ ws) e = omega (arith, length-new hold d ts ws (omega arith))
 
 module _ (hold : ℕ → Hold) (d : ℕ) where
-  -- where none is this number, all are as before
-  pub new-none : (ts ws : List ℕ) → length ws ≡ length ts → length (pick (λ w. eqb w d) ts ws) ≡ 0 → newWatches hold d ts ws ≡ ws
-  unfolding newWatches newWatch pick
-  new-none [] [] e h = refl
-  new-none [] (w ∷ ws) e h = absurd (omega arith)
-  new-none (t ∷ ts) [] e h = absurd (omega arith)
-  new-none (t ∷ ts) (w ∷ ws) e h = by-test (eqb w d)
-      (λ q. absurd (omega (arith, rw q at h)))
-      (λ q. rw q (ap (λ l. w ∷ l) (new-none ts ws (omega arith) (rw q at h))))
+  -- where no other number holds a token that watches this one, all are as before
+  pub new-unheld : (ts ws : List ℕ) → length ws ≡ length ts → length (keep (λ t. isHeld (hold t)) (pick (λ w. eqb w d) ts ws)) ≡ 0 → newWatches hold d ts ws ≡ ws
+  unfolding newWatches newWatch pick keep
+  new-unheld [] [] e h = refl
+  new-unheld [] (w ∷ ws) e h = absurd (omega arith)
+  new-unheld (t ∷ ts) [] e h = absurd (omega arith)
+  new-unheld (t ∷ ts) (w ∷ ws) e h = by-test (eqb w d)
+      (λ q. by-test (isHeld (hold t))
+      (λ held. absurd (omega (arith, rw (q, held) at h)))
+      (λ unheld. rw (q, stays (hold t) unheld) (ap (λ l. w ∷ l) (new-unheld ts ws (omega arith) (rw (q, unheld) at h)))))
+      (λ q. rw q (ap (λ l. w ∷ l) (new-unheld ts ws (omega arith) (rw q at h))))
+    where
+      stays : (x : Hold) → isHeld x ≡ false → byHold x w w (λ n. n) ≡ w
+      stays Hold.Unsound h = refl
+      stays Hold.Free h = refl
+      stays (Hold.By n) h = absurd (true≢false h)
 
   -- a watch by what holds its token
   new-other : (t w : ℕ) → eqb w d ≡ false → newWatch hold d t w ≡ w
   unfolding newWatch
   new-other t w q = rw q
+
+  -- one that is another number stays so
+  pub new-apart : (ts ws : List ℕ) (i : ℕ) → length ws ≡ length ts → i < length ws → (getD ws i 0 ≡ d → ⊥) → getD (newWatches hold d ts ws) i 0 ≡ d → ⊥
+  unfolding newWatches
+  new-apart [] ws i e h other same = omega arith
+  new-apart (t ∷ ts) [] i e h other same = omega arith
+  new-apart (t ∷ ts) (w ∷ ws) zero e h other same = other (sym (new-other t w (ne-eqb w d other)) ∙ same)
+  new-apart (t ∷ ts) (w ∷ ws) (suc i) e h other same = new-apart ts ws i (omega arith) (omega arith) other same
 
   new-free : (t w : ℕ) → eqb w d ≡ true → isFree (hold t) ≡ true → eqb (newWatch hold d t w) d ≡ true
   unfolding newWatch

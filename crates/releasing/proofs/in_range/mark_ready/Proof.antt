@@ -4,7 +4,7 @@ use mathlib.Core.Path.{refl}
 use native.Mathlib.Omega.{arith}
 use Prim.Native.Nat.{_-_, _<_}
 use lib.ListN.{getD}
-use Rattle.tables.proofs.code.Passes as passes
+use Rattle.tables.proofs.code.Marking as passes
 use Rattle.releasing.proofs.in_range.mark_ready.Statement.{statement}
 use Rattle.releasing.proofs.in_range.mark_ready.Tie as tie
 

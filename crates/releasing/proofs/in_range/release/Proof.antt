@@ -1,5 +1,7 @@
 -- `releasing::in_range::release` meets its contract.
 use borrow.Author.Needs.{needs}
+use native.Mathlib.Omega.{arith}
+use Rattle.tables.proofs.code.ScanLaws.{Next, next-of}
 use Rattle.tables.proofs.code.Moves.{release-nobody}
 use Rattle.tables.proofs.code.ReleasingLaws.{release-beyond}
 use Rattle.releasing.proofs.in_range.release.Statement.{statement}
@@ -14,8 +16,18 @@ cast-held c = search needs
 next-requires : tie.Need-next-requires
 next-requires c κs = search needs
 
+found : (c : tie.After-next) → let start = c .before .before .before .before .before .before in
+    Next (start .args .mem .now) (start .args .past) 0 (start .args .t .held) (c .next .result)
+found c =
+    let start = c .before .before .before .before .before .before in
+    next-of (start .args .mem .now) (start .args .past) (start .args .t .held) (omega (arith, start .pre .0 .held, start .pre .1)) (omega arith) (c .next .ensures)
+
 release-watched-requires : tie.Need-release-watched-requires
-release-watched-requires c κs = search needs
+release-watched-requires c κs =
+    let at-next = c .before .before in
+    let next = found at-next in
+    let start = at-next .before .before .before .before .before .before in
+    (start .pre .0, ((start .pre .1, at-next .before .before .before .if1 .left), (next .upto, λ i below. next .none i (omega arith) below)))
 
 same-length : tie.Need-same-length
 same-length c = search needs
@@ -40,7 +52,7 @@ returns-3 c =
     let at-next = c .before in
     let at-if1 = at-next .before .before .before in
     let start = at-if1 .before .before .before in
-    release-nobody (start .args .t) (start .args .past) (start .args .mem .now) (start .pre .0) (start .pre .1) (at-if1 .if1 .left) (at-next .next .ensures) (c .if2 .left)
+    release-nobody (start .args .t) (start .args .past) (start .args .mem .now) (start .pre .0) (start .pre .1) (at-if1 .if1 .left) (found at-next) (c .if2 .left)
 
 pub release-spec : {M : Type 1} → statement M
 release-spec =

@@ -12,8 +12,10 @@ use Rattle.releasing.proofs.in_range.release_watched.Tie as tie
 cast-held : tie.Need-cast-held
 cast-held c = search needs
 
-count-woken-requires : tie.Need-count-woken-requires
-count-woken-requires c κs = search needs
+tally-requires : tie.Need-tally-requires
+tally-requires c κs =
+    let start = c .before .before .before in
+    ((start .pre .1 .0 .0, start .pre .0 .tokens), ((start .pre .1 .1 .0, start .pre .0 .held), start .pre .1 .1 .1))
 
 enum-known-found : tie.Need-enum-known-found
 enum-known-found c = search needs
@@ -26,10 +28,10 @@ same-length c = search needs
 
 returns : tie.Need-returns
 returns c =
-    let at-count = c .before .before in
-    let start = at-count .before .before .before .before in
+    let at-tally = c .before .before in
+    let start = at-tally .before .before .before .before in
     let args = start .args in
-    laws.release-bad (args .t) (args .past) (args .mem .now) (start .pre .1 .1) (at-count .count-woken .ensures) (c .enum-told .given .1)
+    laws.release-bad (args .t) (args .past) (args .mem .now) (start .pre .1 .0 .1) (at-tally .tally .ensures) (c .enum-told .given .1)
 
 sub-if1 : tie.Need-sub-if1
 sub-if1 c = search needs
@@ -40,14 +42,27 @@ same-length-2 c = search needs
 returns-2 : tie.Need-returns-2
 returns-2 c =
     let at-found = c .before .before .before in
-    let at-count = at-found .before .before in
-    let start = at-count .before .before .before .before in
+    let at-tally = at-found .before .before in
+    let start = at-tally .before .before .before .before in
     let args = start .args in
-    laws.release-full (args .t) (args .past) (args .mem .now) (start .pre .1 .1) (at-count .count-woken .ensures) (at-found .found .given .1)
+    laws.release-full (args .t) (args .past) (args .mem .now) (start .pre .1 .0 .1) (at-tally .tally .ensures) (at-found .found .given .1)
     (omega (arith, c .if1 .taken))
 
 renew-requires : tie.Need-renew-requires
-renew-requires c κs = search needs
+renew-requires c κs =
+    let at-found = c .before .before .before .before in
+    let at-tally = at-found .before .before in
+    let start = at-tally .before .before .before .before in
+    let args = start .args in (
+      (start .pre .1 .0 .0, start .pre .0 .tokens),
+      (
+        (start .pre .1 .1 .0, start .pre .0 .held),
+        (
+          start .pre .1 .1 .1,
+          laws.kept-is (args .t) (args .past) (args .mem .now) (start .pre .1 .0 .1) (at-tally .tally .ensures) (at-found .found .given .1),
+        ),
+      ),
+    )
 
 -- from the renewed watches back to the places before
 abbrev room-of : tie.After-renew → tie.Else1
@@ -56,13 +71,13 @@ room-of c = c .before .before
 abbrev found-of : tie.After-renew → tie.After-found
 found-of c = c .before .before .before .before .before
 
-abbrev count-of : tie.After-found → tie.After-count-woken
-count-of c = c .before .before
+abbrev tally-of : tie.After-found → tie.After-tally
+tally-of c = c .before .before
 
-abbrev entry-of : tie.After-count-woken → tie.Start
+abbrev entry-of : tie.After-tally → tie.Start
 entry-of c = c .before .before .before .before
 
-renewed : (c : tie.After-renew) → let args = entry-of (count-of (found-of c)) .args in
+renewed : (c : tie.After-renew) → let args = entry-of (tally-of (found-of c)) .args in
     c .renew .last .0 ≡ sets (args .mem .now) 24576 (renewedIn (args .t) (args .past) (args .mem .now))
 renewed c = c .renew .ensures
 
@@ -82,34 +97,40 @@ returns-3 : tie.Need-returns-3
 returns-3 c =
     let at-renew = c .before .before .before in
     let at-found = found-of at-renew in
-    let at-count = count-of at-found in
-    let start = entry-of at-count in
+    let at-tally = tally-of at-found in
+    let start = entry-of at-tally in
     let args = start .args in
-    let count-is = laws.count-is (args .t) (args .past) (args .mem .now) (start .pre .1 .1) (at-count .count-woken .ensures) (at-found .found .given .1) in
+    let count-is = laws.count-is (args .t) (args .past) (args .mem .now) (start .pre .1 .0 .1) (at-tally .tally .ensures) (at-found .found .given .1) in
     let asleep = sym count-is ∙ c .if2 .taken in
-    laws.release-moved (args .t) (args .past) (args .mem .now) (start .pre .1 .1) (at-count .count-woken .ensures) (at-found .found .given .1)
+    laws.release-moved (args .t) (args .past) (args .mem .now) (start .pre .1 .0 .1) (at-tally .tally .ensures) (at-found .found .given .1)
     (omega (arith, room-of at-renew .if1 .left, start .pre .0 .end))
-    (moves.none-tables (args .t) (args .past) (args .mem .now) (start .pre .0) (start .pre .1 .0) (renewed at-renew) asleep)
-    (moves.none-memory (args .t) (args .past) (args .mem .now) (start .pre .0) (start .pre .1 .0) (renewed at-renew) asleep)
+    (moves.none-tables (args .t) (args .past) (args .mem .now) (start .pre .0) (start .pre .1 .0 .0) (renewed at-renew) asleep)
+    (moves.none-memory (args .t) (args .past) (args .mem .now) (start .pre .0) (start .pre .1 .0 .0) (renewed at-renew) asleep)
 
 move-woken-requires : tie.Need-move-woken-requires
 move-woken-requires c κs =
     let at-renew = c .before .before .before .before in
     let at-found = found-of at-renew in
-    let at-count = count-of at-found in
-    let start = entry-of at-count in
+    let at-tally = tally-of at-found in
+    let start = entry-of at-tally in
     let args = start .args in
-    let count-is = laws.count-is (args .t) (args .past) (args .mem .now) (start .pre .1 .1) (at-count .count-woken .ensures) (at-found .found .given .1) in
-    let sound = laws.all-sound (args .t) (args .past) (args .mem .now) (start .pre .1 .1) (at-count .count-woken .ensures) (at-found .found .given .1) in (
+    let count-is = laws.count-is (args .t) (args .past) (args .mem .now) (start .pre .1 .0 .1) (at-tally .tally .ensures) (at-found .found .given .1) in
+    let sound = laws.all-sound (args .t) (args .past) (args .mem .now) (start .pre .1 .0 .1) (at-tally .tally .ensures) (at-found .found .given .1) in (
       start .pre .0,
       (
-        (omega arith, start .pre .1 .1),
+        (omega arith, start .pre .1 .0 .1),
         (
           (
-            moves.woken-number (args .t) (args .past) (args .mem .now) (start .pre .0) (start .pre .1 .0) (renewed at-renew) count-is,
-            omega (arith, room-of at-renew .if1 .left, start .pre .0 .end),
+            start .pre .1 .1 .0,
+            moves.renewed-unwatched (args .t) (args .past) (args .mem .now) (start .pre .0) (start .pre .1 .0 .0) (renewed at-renew) (start .pre .1 .1 .0) (start .pre .1 .1 .1),
           ),
-          moves.woken-allowed (args .t) (args .past) (args .mem .now) (start .pre .0) (start .pre .1 .0) (renewed at-renew) sound,
+          (
+            (
+              moves.woken-number (args .t) (args .past) (args .mem .now) (start .pre .0) (start .pre .1 .0 .0) (renewed at-renew) count-is,
+              omega (arith, room-of at-renew .if1 .left, start .pre .0 .end),
+            ),
+            moves.woken-allowed (args .t) (args .past) (args .mem .now) (start .pre .0) (start .pre .1 .0 .0) (renewed at-renew) sound,
+          ),
         ),
       ),
     )
@@ -122,21 +143,21 @@ returns-4 c =
     let at-move = c .before .before in
     let at-renew = at-move .before .before .before .before .before in
     let at-found = found-of at-renew in
-    let at-count = count-of at-found in
-    let start = entry-of at-count in
+    let at-tally = tally-of at-found in
+    let start = entry-of at-tally in
     let args = start .args in
-    let count-is = laws.count-is (args .t) (args .past) (args .mem .now) (start .pre .1 .1) (at-count .count-woken .ensures) (at-found .found .given .1) in
-    laws.release-moved (args .t) (args .past) (args .mem .now) (start .pre .1 .1) (at-count .count-woken .ensures) (at-found .found .given .1)
+    let count-is = laws.count-is (args .t) (args .past) (args .mem .now) (start .pre .1 .0 .1) (at-tally .tally .ensures) (at-found .found .given .1) in
+    laws.release-moved (args .t) (args .past) (args .mem .now) (start .pre .1 .0 .1) (at-tally .tally .ensures) (at-found .found .given .1)
     (omega (arith, room-of at-renew .if1 .left, start .pre .0 .end))
-    (at-move .move-woken .ensures .0 ∙ moves.tables-are (args .t) (args .past) (args .mem .now) (start .pre .0) (start .pre .1 .0) (renewed at-renew) count-is)
-    (moves.memory-is (args .t) (args .past) (args .mem .now) (start .pre .0) (start .pre .1 .0) (renewed at-renew) (at-move .move-woken .ensures .1))
+    (at-move .move-woken .ensures .0 ∙ moves.tables-are (args .t) (args .past) (args .mem .now) (start .pre .0) (start .pre .1 .0 .0) (renewed at-renew) count-is)
+    (moves.memory-is (args .t) (args .past) (args .mem .now) (start .pre .0) (start .pre .1 .0 .0) (renewed at-renew) (at-move .move-woken .ensures .1))
 
 pub release-watched-spec : {M : Type 1} → statement M
 release-watched-spec =
     tie.close
     (tie.spec
     cast-held
-    count-woken-requires
+    tally-requires
     enum-known-found
     enum-told
     same-length
