@@ -14,7 +14,8 @@ pub enum Deferral {
     EveryThird,
     Long,
     Chain,
-    OneByOne,
+    OldestFirst,
+    HighestFirst,
 }
 
 /// How many pipes and lines.
@@ -53,7 +54,8 @@ impl Deferral {
             Deferral::EveryThird => "every third token",
             Deferral::Long => "half, for long",
             Deferral::Chain => "chain backwards",
-            Deferral::OneByOne => "half, one by one",
+            Deferral::OldestFirst => "oldest first",
+            Deferral::HighestFirst => "highest first",
         }
     }
 }
@@ -83,7 +85,8 @@ impl Kind {
             Deferral::EveryThird => plans::every_third(self.tokens),
             Deferral::Long => plans::long_deferred(self.tokens),
             Deferral::Chain => plans::chain(self.tokens),
-            Deferral::OneByOne => plans::one_by_one(self.tokens),
+            Deferral::OldestFirst => plans::oldest_first(self.tokens),
+            Deferral::HighestFirst => plans::highest_first(self.tokens),
         };
         match self.shape {
             Shape::Wide => plan,
@@ -150,6 +153,7 @@ pub fn all() -> Vec<Case> {
     for deferral in [Deferral::None, Deferral::Long, Deferral::Chain] {
         SIZES.into_iter().for_each(|tokens| narrow(deferral, tokens));
     }
-    narrow(Deferral::OneByOne, LARGE);
+    narrow(Deferral::OldestFirst, LARGE);
+    narrow(Deferral::HighestFirst, MIDDLE);
     kinds.into_iter().map(Kind::case).collect()
 }

@@ -76,11 +76,21 @@ pub fn chain(tokens: u16) -> Plan {
     wide(tokens, (0..tokens - 1).map(|t| (t, vec![t + 1])).collect())
 }
 
-/// Each token of the first half waits for its own one of the second, so that these let them in one by
-/// one, the oldest first.
-pub fn one_by_one(tokens: u16) -> Plan {
-    let half = tokens / 2;
-    wide(tokens, (0..half).map(|t| (t, vec![half + t])).collect())
+/// Every token but the last is deferred, the first to the last and each other to the one before it: each
+/// finish lets the oldest of all that are left in, which moves all others. No plan is known to us in
+/// which a finish takes longer.
+pub fn oldest_first(tokens: u16) -> Plan {
+    let number = |t: u16| t.checked_sub(1).unwrap_or(tokens - 1);
+    wide(tokens, (0..tokens - 1).map(|t| (t, vec![number(t)])).collect())
+}
+
+/// 511 tokens wait for the same sixteen, which let each other in backwards: each of their finishes is of
+/// the highest number that the others still wait for, so that all of them must find another.
+pub fn highest_first(tokens: u16) -> Plan {
+    let sixteen = 511..527;
+    let waiting = (0..511).map(|t| (t, sixteen.clone().collect()));
+    let chain = (511..526).map(|t| (t, vec![t + 1]));
+    wide(tokens, waiting.chain(chain).collect())
 }
 
 /// The same tokens and records on one pipe and one line: every second choice finishes pipe 0.
