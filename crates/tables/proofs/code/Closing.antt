@@ -4,7 +4,7 @@ use mathlib.Core.Bool.{true, false}
 use mathlib.Core.List.{List, _++_}
 use Prim.Native.Nat.{ℕ, suc, _+_, _-_, _<_, _≤_}
 use native.Mathlib.Omega.{arith}
-use lib.ListN.{length, getD, drop, length-append}
+use lib.ListN.{length, drop}
 use lib.Seq.{sets, slice, length-slice, length-sets}
 use Rattle.tables.specs.Releasing.{siftedFrom, Unwatched}
 use Rattle.tables.proofs.memory.Cells.{drop-more, drop-sets, cell-from, sets-slice}

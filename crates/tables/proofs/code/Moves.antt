@@ -19,7 +19,8 @@ use Rattle.tables.specs.Releasing.{isFree, pick, siftedFrom, renewedIn, 
 use Rattle.tables.proofs.memory.Cells.{cell-below, cell-from, take-sets, drop-sets, slice-before, slice-sets, sets-slice}
 use Rattle.tables.proofs.memory.MemoryLaws.{slice-same}
 use Rattle.tables.proofs.memory.FactsLaws.{left-by, left-low}
-use Rattle.tables.proofs.memory.PickLaws.{pick-most, pick-same, pick-none, length-new, new-unheld, new-apart, still-watching, watching-below}
+use Rattle.tables.proofs.memory.PickLaws.{pick-most, pick-same, pick-none, new-unheld, new-apart, still-watching, watching-below}
+use Rattle.tables.proofs.memory.TableLaws.{table-length, watches-length, in-step, renewed-length, renewed-in-step}
 use Rattle.tables.proofs.code.ScanLaws.{Next}
 use Rattle.tables.proofs.code.SiftLaws.{sifted-end, watchers-skip, stay-count}
 use Rattle.tables.proofs.code.ReleasingLaws.{Gives, tally-nobody, release-moved}
@@ -38,24 +39,6 @@ same-memory m end held d most whole none all kept long =
     rw (none, long, gone, all, kept, sets-slice m 20480 held (omega arith), sets-slice m 24576 held (omega arith))
 
 module _ (t : Tables) (d : ℕ) (m : List ℕ) (ok : InRange t) (whole : 32768 ≤ length m) where
-  table-length : length (tableOf t m) ≡ t .held
-  table-length = length-slice 20480 (20480 + t .held) m (omega (arith, ok .held)) ∙ omega arith
-
-  watches-length : length (watchesOf t m) ≡ t .held
-  watches-length = length-slice 24576 (24576 + t .held) m (omega (arith, ok .held)) ∙ omega arith
-
-  pub renewed-length : length (renewedIn t d m) ≡ t .held
-  renewed-length = length-new (leftHold (take 20480 m) (t .tokens) d) d (tableOf t m) (watchesOf t m) (watches-length ∙ sym table-length) ∙ table-length
-
-  in-step : length (renewedIn t d m) ≡ length (tableOf t m)
-  in-step = renewed-length ∙ sym table-length
-
-  pub staying-length : length (stayingIn t d m) ≤ t .held
-  staying-length = omega (arith, pick-most (λ w. not (eqb w d)) (tableOf t m) (renewedIn t d m), table-length)
-
-  pub even : length (watchingIn t d m) ≡ length (stayingIn t d m)
-  even = pick-same (λ w. not (eqb w d)) (renewedIn t d m) (tableOf t m) (renewedIn t d m) in-step
-
   abbrev hold : ℕ → Hold
   hold = leftHold (take 20480 m) (t .tokens) d
 
@@ -72,14 +55,14 @@ module _ (t : Tables) (d : ℕ) (m : List ℕ) (ok : InRange t) (whole : 32768 �
 
     renewed-watches : slice 24576 (24576 + t .held) m₁ ≡ renewedIn t d m
     renewed-watches =
-        let ends : 24576 + t .held ≡ 24576 + length (renewedIn t d m) = omega (arith, renewed-length) in
+        let ends : 24576 + t .held ≡ 24576 + length (renewedIn t d m) = omega (arith, renewed-length t m ok whole d) in
         ap (slice 24576 (24576 + t .held)) renewed ∙ ap (λ e. slice 24576 e (sets m 24576 (renewedIn t d m))) ends
-        ∙ slice-sets (renewedIn t d m) m 24576 (omega (arith, renewed-length, ok .held))
+        ∙ slice-sets (renewedIn t d m) m 24576 (omega (arith, renewed-length t m ok whole d, ok .held))
 
     -- the cells before the first that watched the token do not watch it now
     pub renewed-unwatched : {first : ℕ} → first ≤ t .held → Unwatched m d first → Unwatched m₁ d first
     renewed-unwatched h none i below same =
-        new-apart hold d (tableOf t m) (watchesOf t m) i (watches-length ∙ sym table-length) (omega (arith, watches-length))
+        new-apart hold d (tableOf t m) (watchesOf t m) i (in-step t m ok whole) (omega (arith, watches-length t m ok whole))
         (λ e. none i below (sym (watch-in m i (omega arith)) ∙ e))
         (ap (λ (l : List ℕ). getD l i 0) (sym renewed-watches) ∙ watch-in m₁ i (omega arith) ∙ same)
       where
@@ -120,14 +103,14 @@ module _ (t : Tables) (d : ℕ) (m : List ℕ) (ok : InRange t) (whole : 32768 �
     -- where no token wakes nothing moves, and the finished token has its new standing
     module _ (asleep : length (wokenIn t d m) ≡ 0) where
       table-stays : (wokenIn t d m ≡ []) × (stayingIn t d m ≡ tableOf t m)
-      table-stays = pick-none (λ w. eqb w d) (tableOf t m) (renewedIn t d m) in-step asleep
+      table-stays = pick-none (λ w. eqb w d) (tableOf t m) (renewedIn t d m) (renewed-in-step t m ok whole d) asleep
 
       watches-stay : watchingIn t d m ≡ renewedIn t d m
       watches-stay =
-          pick-none (λ w. eqb w d) (renewedIn t d m) (renewedIn t d m) refl (pick-same (λ w. eqb w d) (renewedIn t d m) (tableOf t m) (renewedIn t d m) in-step ∙ asleep) .1
+          pick-none (λ w. eqb w d) (renewedIn t d m) (renewedIn t d m) refl (pick-same (λ w. eqb w d) (renewedIn t d m) (tableOf t m) (renewedIn t d m) (renewed-in-step t m ok whole d) ∙ asleep) .1
 
       staying-held : length (stayingIn t d m) ≡ t .held
-      staying-held = ap length (table-stays .1) ∙ table-length
+      staying-held = ap length (table-stays .1) ∙ table-length t m ok whole
 
       pub none-tables : t ≡ movedTables t d m
       unfolding movedTables
@@ -145,7 +128,7 @@ module _ (t : Tables) (d : ℕ) (m : List ℕ) (ok : InRange t) (whole : 32768 �
     pub nobody-renewed : m ≡ sets m 24576 (renewedIn t d m)
     unfolding keep
     nobody-renewed =
-        let same : renewedIn t d m ≡ watchesOf t m = new-unheld hold d (tableOf t m) (watchesOf t m) (watches-length ∙ sym table-length) (rw nobody) in
+        let same : renewedIn t d m ≡ watchesOf t m = new-unheld hold d (tableOf t m) (watchesOf t m) (in-step t m ok whole) (rw nobody) in
         sym (rw same (sets-slice m 24576 (t .held) (omega (arith, ok .held))))
 
     pub nobody-woken : length (wokenIn t d m) ≡ 0

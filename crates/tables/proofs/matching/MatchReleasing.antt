@@ -7,7 +7,7 @@ use native.Mathlib.Omega.{arith}
 use borrow.Author.Tests.{le-leb, lt-leb, eq-eqb}
 use lib.Dec.{eqb}
 use lib.ListN.{length, take, drop, set, replicate, length-set, length-replicate}
-use lib.Seq.{take-set-le, drop-set-lt, sets, slice, length-slice, length-sets}
+use lib.Seq.{take-set-le, drop-set-lt, sets, slice, length-sets}
 use Rattle.rules.specs.Lists.{if, has, any, Below}
 use Rattle.rules.specs.TakingTokens.{tokensOf}
 use Rattle.rules.specs.TakingTokens as rules
@@ -20,7 +20,8 @@ use Rattle.tables.specs.Matching.{Recorded, Watched, Standing, Match, no
 use Rattle.rules.proofs.lists.Members.{below-mono}
 use Rattle.tables.proofs.memory.Cells.{take-less, take-sets, drop-sets, drop-more, slice-before, slice-sets}
 use Rattle.tables.proofs.memory.MemoryLaws.{standing-set, length-marks, take-marks, drop-marks, standing-marks, recorded-kept, slice-append, slice-same}
-use Rattle.tables.proofs.memory.PickLaws.{below-pick, pick-same, pick-all, length-new}
+use Rattle.tables.proofs.memory.PickLaws.{below-pick}
+use Rattle.tables.proofs.memory.TableLaws.{renewed-length, all-moved, even}
 use Rattle.tables.proofs.matching.StandingLaws.{table-low}
 use Rattle.tables.proofs.matching.RuleReleasing.{finished, woken-are, staying-are, watched-after, none-unsound, release-standing}
 
@@ -192,21 +193,14 @@ module _ (tokens : ℕ) (numbers : ℕ → List ℕ) (a : rules.Tables) (t : Tab
   finisher-low : d < tokens
   finisher-low = omega (arith, p .standing .outside d (eq-eqb d d refl) .1, count-within)
 
-  table-length : length (tableOf t m) ≡ t .held
-  table-length = length-slice 20480 (20480 + t .held) m (omega (arith, p .range .held, p .whole)) ∙ omega arith
+  renewed-size : length (renewedIn t d m) ≡ t .held
+  renewed-size = renewed-length t m (p .range) (p .whole) d
 
-  watches-length : length (watchesOf t m) ≡ t .held
-  watches-length = length-slice 24576 (24576 + t .held) m (omega (arith, p .range .held, p .whole)) ∙ omega arith
+  parts : length (wokenIn t d m) + length (stayingIn t d m) ≡ t .held
+  parts = all-moved t m (p .range) (p .whole) d
 
-  renewed-length : length (renewedIn t d m) ≡ t .held
-  renewed-length = length-new (leftHold (take 20480 m) (t .tokens) d) d (tableOf t m) (watchesOf t m) (watches-length ∙ sym table-length) ∙ table-length
-
-  -- the woken and the staying are the whole table
-  all-moved : length (wokenIn t d m) + length (stayingIn t d m) ≡ t .held
-  all-moved = pick-all (λ w. eqb w d) (tableOf t m) (renewedIn t d m) (renewed-length ∙ sym table-length) ∙ table-length
-
-  even : length (watchingIn t d m) ≡ length (stayingIn t d m)
-  even = pick-same (λ w. not (eqb w d)) (renewedIn t d m) (tableOf t m) (renewedIn t d m) (renewed-length ∙ sym table-length)
+  steps : length (watchingIn t d m) ≡ length (stayingIn t d m)
+  steps = even t m (p .range) (p .whole) d
 
   releases : releaseOf t d m ≡ Passed (movedTables t d m, movedMemory t d m)
   unfolding releaseOf
@@ -214,7 +208,7 @@ module _ (tokens : ℕ) (numbers : ℕ → List ℕ) (a : rules.Tables) (t : Tab
       rw (
         lt-leb (t .tokens) d (omega (arith, finisher-low, p .size)),
         all-sound,
-        le-leb (t .end + length (wokenIn t d m)) 4096 (omega (arith, all-moved, p .room, p .range .count, p .range .tokens)),
+        le-leb (t .end + length (wokenIn t d m)) 4096 (omega (arith, parts, p .room, p .range .count, p .range .tokens)),
       )
 
   woken-low : Below 4096 (wokenIn t d m)
@@ -223,35 +217,35 @@ module _ (tokens : ℕ) (numbers : ℕ → List ℕ) (a : rules.Tables) (t : Tab
       (below-mono (tableOf t m) (omega (arith, p .size, p .range .tokens)) low-cells)
 
   room : t .end + length (wokenIn t d m) ≤ 4096
-  room = omega (arith, all-moved, p .room, p .range .count, p .range .tokens)
+  room = omega (arith, parts, p .room, p .range .count, p .range .tokens)
 
   short : length (stayingIn t d m) ≤ t .held
-  short = omega (arith, all-moved)
+  short = omega (arith, parts)
 
   low : d < 4096
   low = omega (arith, finisher-low, p .size, p .range .tokens)
 
   long : length (movedMemory t d m) ≡ length m
   unfolding movedMemory moved readied cleared halfway freed closed shut queued watched
-  long = moved-length m (p .whole) (t .end) (t .held) d (renewedIn t d m) (wokenIn t d m) (stayingIn t d m) (watchingIn t d m) renewed-length room short even (p .range .held) woken-low low
+  long = moved-length m (p .whole) (t .end) (t .held) d (renewedIn t d m) (wokenIn t d m) (stayingIn t d m) (watchingIn t d m) renewed-size room short steps (p .range .held) woken-low low
 
   after-queue : slice (28672 + t .first) (28672 + (t .end + length (wokenIn t d m))) (movedMemory t d m) ≡ rules.release d a .ready
   unfolding movedMemory moved readied cleared halfway freed closed shut queued watched rules.release after
   after-queue =
-      moved-queue m (p .whole) (t .end) (t .held) d (renewedIn t d m) (wokenIn t d m) (stayingIn t d m) (watchingIn t d m) renewed-length room short even (p .range .held) woken-low low (t .first) (p .range .queue)
+      moved-queue m (p .whole) (t .end) (t .held) d (renewedIn t d m) (wokenIn t d m) (stayingIn t d m) (watchingIn t d m) renewed-size room short steps (p .range .held) woken-low low (t .first) (p .range .queue)
       ∙ ap₂ _++_ (p .queue) (woken-is ∙ sym (woken-are numbers (take 20480 m) tokens d (p .records) (a .deferred) (watchesOf t m) (p .standing .waiting) low-table (p .watched)))
 
   after-table : slice 20480 (20480 + length (stayingIn t d m)) (movedMemory t d m) ≡ tokensOf (rules.release d a .deferred)
   unfolding movedMemory moved readied cleared halfway freed closed shut queued watched rules.release after
   after-table =
-      moved-table m (p .whole) (t .end) (t .held) d (renewedIn t d m) (wokenIn t d m) (stayingIn t d m) (watchingIn t d m) renewed-length room short even (p .range .held) woken-low low
+      moved-table m (p .whole) (t .end) (t .held) d (renewedIn t d m) (wokenIn t d m) (stayingIn t d m) (watchingIn t d m) renewed-size room short steps (p .range .held) woken-low low
       ∙ staying-is ∙ sym (staying-are numbers (take 20480 m) tokens d (p .records) (a .deferred) (watchesOf t m) (p .standing .waiting) low-table (p .watched))
 
   after-watched : Watched (rules.release d a .deferred) (slice 24576 (24576 + length (stayingIn t d m)) (movedMemory t d m))
   unfolding movedMemory moved readied cleared halfway freed closed shut queued watched rules.release after
   after-watched =
       subst (Watched (rules.release d a .deferred))
-      (sym (moved-watches m (p .whole) (t .end) (t .held) d (renewedIn t d m) (wokenIn t d m) (stayingIn t d m) (watchingIn t d m) renewed-length room short even (p .range .held) woken-low low
+      (sym (moved-watches m (p .whole) (t .end) (t .held) d (renewedIn t d m) (wokenIn t d m) (stayingIn t d m) (watchingIn t d m) renewed-size room short steps (p .range .held) woken-low low
       ∙ ap (λ ws. pick (λ w. not (eqb w d)) ws ws) renewed-is))
       (watched-after numbers (take 20480 m) tokens d (p .records) (a .deferred) (watchesOf t m) (p .standing .waiting) low-table (p .watched))
 
@@ -259,14 +253,14 @@ module _ (tokens : ℕ) (numbers : ℕ → List ℕ) (a : rules.Tables) (t : Tab
   unfolding movedMemory moved readied cleared halfway freed closed shut queued watched
   after-records n l =
       recorded-kept m (movedMemory t d m)
-      (moved-records m (p .whole) (t .end) (t .held) d (renewedIn t d m) (wokenIn t d m) (stayingIn t d m) (watchingIn t d m) renewed-length room short even (p .range .held) woken-low low)
+      (moved-records m (p .whole) (t .end) (t .held) d (renewedIn t d m) (wokenIn t d m) (stayingIn t d m) (watchingIn t d m) renewed-size room short steps (p .range .held) woken-low low)
       long (p .whole) n (omega (arith, p .size, p .range .tokens)) (p .records n l)
 
   after-standing : Standing numbers (rules.release d a) (standingOf (take 20480 (movedMemory t d m))) nobody
   unfolding movedMemory moved readied cleared halfway freed closed shut queued watched after
   after-standing =
       subst (λ s. Standing numbers (rules.release d a) s nobody)
-      (sym (moved-standing m (p .whole) (t .end) (t .held) d (renewedIn t d m) (wokenIn t d m) (stayingIn t d m) (watchingIn t d m) renewed-length room short even (p .range .held) woken-low low
+      (sym (moved-standing m (p .whole) (t .end) (t .held) d (renewedIn t d m) (wokenIn t d m) (stayingIn t d m) (watchingIn t d m) renewed-size room short steps (p .range .held) woken-low low
       ∙ ap (finished (standingOf (take 20480 m)) d)
       (woken-is ∙ sym (woken-are numbers (take 20480 m) tokens d (p .records) (a .deferred) (watchesOf t m) (p .standing .waiting) low-table (p .watched)))))
       (release-standing numbers (take 20480 m) d a (p .standing))
@@ -288,7 +282,7 @@ module _ (tokens : ℕ) (numbers : ℕ → List ℕ) (a : rules.Tables) (t : Tab
       whole = rw long (p .whole);
       size = p .size;
       count = p .count;
-      room = omega (arith, all-moved, p .room);
+      room = omega (arith, parts, p .room);
       queue = after-queue;
       table = after-table;
       watched = after-watched;

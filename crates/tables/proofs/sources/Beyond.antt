@@ -23,7 +23,8 @@ use Rattle.tables.specs.Matching.{beyond}
 use Rattle.tables.specs.Calls.{safeTake, safeRelease, memorySource}
 use Rattle.rules.proofs.lists.Members.{below-range, length-range}
 use Rattle.tables.proofs.memory.MemoryLaws.{length-marks}
-use Rattle.tables.proofs.code.Moves.{renewed-length, staying-length, even, woken-below}
+use Rattle.tables.proofs.memory.TableLaws.{renewed-length, all-moved, even}
+use Rattle.tables.proofs.code.Moves.{woken-below}
 use Rattle.tables.proofs.code.TakingLaws.{found-within}
 use Rattle.tables.proofs.memory.Ranges.{range-sound}
 use Rattle.tables.proofs.sources.Joint.{Joint, memorySide, sides-match, takeJoint, releaseJoint, jointSource, memory-follows, safe-take, safe-release}
@@ -146,9 +147,9 @@ module _ (r : List ℕ) where
     moved-beyond d sound low room =
         parts (renewed-same d) (woken-same d) (staying-same d) (watching-same d)
         ∙ ap (λ l. movedBy l (t .end) (t .held) d (wokenIn t d m) (stayingIn t d m) (watchingIn t d m))
-        (sets-beyond (renewedIn t d m) m 24576 (omega (arith, ok .held, renewed-length t d m ok whole)))
+        (sets-beyond (renewedIn t d m) m 24576 (omega (arith, ok .held, renewed-length t m ok whole d)))
         ∙ passes-beyond (sets m 24576 (renewedIn t d m)) (wokenIn t d m) (stayingIn t d m) (watchingIn t d m) (t .end) (t .held) d (rw length-sets whole) room
-        (staying-length t d m ok whole) (even t d m ok whole) (ok .held) (woken-below t d m ok whole sound) (omega (arith, ok .tokens))
+        (omega (arith, all-moved t m ok whole d)) (even t m ok whole d) (ok .held) (woken-below t d m ok whole sound) (omega (arith, ok .tokens))
       where
         parts : {n n′ w w′ s s′ v v′ : List ℕ} → n ≡ n′ → w ≡ w′ → s ≡ s′ → v ≡ v′ →
             movedBy (sets (m ++ r) 24576 n) (t .end) (t .held) d w s v ≡ movedBy (sets (m ++ r) 24576 n′) (t .end) (t .held) d w′ s′ v′
