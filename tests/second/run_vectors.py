@@ -346,6 +346,12 @@ def long_plans():
                    (t + 20, [t + 40]), (t + 33, [t + 20]), (t + 40, [t])]
     never = [(t, [t + 7, full + t % 3, 65535] if t % 64 == 0 else [t + 1, t + 30])
              for t in range(0, full - 40, 4)]
+    # All wait: the last one lets the others in backwards, or each the oldest that is left.
+    backwards = [(t, [t + 1]) for t in range(full - 1)]
+    oldest = [(0, [full - 1])] + [(t, [t - 1]) for t in range(1, full - 1)]
+    # Many wait for the same sixteen, of which the highest comes first.
+    highest = [(t, list(range(511, 527))) for t in range(511)]
+    highest += [(t, [t + 1]) for t in range(511, 526)]
     return {
         "plain": Plan([True] * 16, 32, full),
         "third": Plan(big_pipes(), 32, full, third),
@@ -360,6 +366,9 @@ def long_plans():
         "two lines": Plan(big_pipes(), 2, full, both),
         "few": Plan([True, True, False], 5, full, third),
         "total": Plan([True, False], 3, full, makers.plan_with_total(8192).records),
+        "backwards": Plan([True], 1, full, backwards),
+        "oldest": Plan([True], 1, full, oldest),
+        "highest": Plan([True, False], 2, full, highest),
     }
 
 
@@ -396,6 +405,9 @@ LONG_RUNS = [
     ("few", 32, 52000, 123, 5),
     ("total", 1, 42000, 131, 3),
     ("total", 32, 300000, 132, 256),  # mostly refused with 10
+    ("backwards", 1, 8770, 141, 1),
+    ("oldest", 32, 17700, 142, 2),
+    ("highest", 7, 23000, 143, 2),
 ]
 
 
