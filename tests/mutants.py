@@ -45,10 +45,6 @@ LONGEST_ABOVE = 1800
 # Survivors that are no gap: label -> (the line after the change, why). The line stands there so that
 # a label which comes to mean another change, as the code changes, is asked about again.
 KNOWN = {
-    "facts/tokens.rt:numbers_at:comparison-2": (
-        "if POSITIONS < place {",
-        "the same: at the place POSITIONS the next test but one, POSITIONS < place + 1 + count, holds whatever the count is",
-    ),
     "printing/text.rt:put_number:constant-1": ("let mut digits = [1u8; 20];", "the same: only the digits that `io::decimal` has written are put"),
 }
 
