@@ -112,7 +112,7 @@ fn last(facts: &[u16], numbers: &[u16], question: Question) -> Hold
 }
 
 // What holds a token: the last of its numbers for which the answer is yes.
-fn held(facts: &[u16], question: Question, token: u16) -> Hold
+fn held_by(facts: &[u16], question: Question, token: u16) -> Hold
     requires { ⌜ length (now facts) ≡ deferredAt ⌝ }
     requires { ⌜ token < mostTokens ⌝ }
     ensures { λ r. ⌜ r ≡ holdOf (now (facts .entry)) question token ⌝ }
@@ -130,7 +130,7 @@ pub(crate) fn new_hold(facts: &[u16], count: u16, token: u16) -> Hold
     requires { ⌜ token < mostTokens ⌝ }
     ensures { λ r. ⌜ r ≡ newHold (now (facts .entry)) count token ⌝ }
 {
-    held(facts, Question::Due(count, token), token)
+    held_by(facts, Question::Due(count, token), token)
 }
 
 // What still holds a deferred token, below N, once this one has finished.
@@ -142,5 +142,5 @@ pub(crate) fn left_hold(facts: &[u16], tokens: u16, past: u16, token: u16) -> Ho
     if tokens <= token {
         return Hold::Unsound;
     }
-    held(facts, Question::Left(past), token)
+    held_by(facts, Question::Left(past), token)
 }

@@ -44,30 +44,30 @@ fn copy_records(part: &[u8], mem: &mut [u16])
     ensures { λ _. ⌜ now (mem .exit) ≡ sets (now (mem .entry)) 0 (recordsFields (recordsIn (now (part .entry)))) ⌝ }
 {
     let mut at: usize = 0;
-    let mut place: usize = 0;
+    let mut position: usize = 0;
     while at < part.len() {
         let count = field_or_zero(part, at + 2) as usize;
         let from = at + 2;
         let end = at + (4 + 2 * count);
-        copy_fields(&part[from..end], mem, place);
-        place += 1 + count;
+        copy_fields(&part[from..end], mem, position);
+        position += 1 + count;
         at = end;
     }
 }
 
-// Marks where each record stands at its token's place.
+// Marks for each record's token where it stands: 1 + its position.
 fn mark_records(part: &[u8], mem: &mut [u16])
     requires { ⌜ 32768 ≤ length (now mem) ⌝ }
     requires { ⌜ Spells (now part) (recordsIn (now part)) ⌝ }
     ensures { λ _. ⌜ now (mem .exit) ≡ pointed (now (mem .entry)) 0 (recordsIn (now (part .entry))) ⌝ }
 {
     let mut at: usize = 0;
-    let mut place: u16 = 0;
+    let mut position: u16 = 0;
     while at < part.len() {
         let token = field_or_zero(part, at) as usize;
         let count = field_or_zero(part, at + 2);
-        mem[POSITIONS + token] = place + 1;
-        place += 1 + count;
+        mem[POSITIONS + token] = position + 1;
+        position += 1 + count;
         at += 4 + 2 * (count as usize);
     }
 }

@@ -25,16 +25,16 @@ ghost use Rattle.tables.specs.Facts.{leftHold};
 ghost use Rattle.tables.specs.State.{InRange, marks};
 ghost use Rattle.tables.specs.Releasing.{isHeld, siftedFrom, tallyOf, Unwatched, renewedFrom, closedBy, movedBy, releaseOf, releasedOf, releasedMemory};
 
-// Of the tokens that watch this one: how many no other number holds, and how many another does. The first of them is in the cell `first`.
-fn tally(mem: &[u16], tokens: u16, past: u16, first: usize, held: usize) -> Tally
+// Of the tokens that watch this one: how many no other number holds, and how many another does. The first of them is in the cell `watcher`.
+fn tally(mem: &[u16], tokens: u16, past: u16, watcher: usize, held: usize) -> Tally
     requires { ⌜ (lent ≤ length (now mem)) × (tokens ≤ mostTokens) ⌝ }
-    requires { ⌜ (first ≤ held) × (held ≤ mostTokens) ⌝ }
-    requires { ⌜ Unwatched (now mem) past first ⌝ }
+    requires { ⌜ (watcher ≤ held) × (held ≤ mostTokens) ⌝ }
+    requires { ⌜ Unwatched (now mem) past watcher ⌝ }
     ensures { λ r. ⌜ r ≡ tallyOf (leftHold (factsOf (now (mem .entry))) tokens past) 0 0 (siftedFrom true (now (mem .entry)) deferredAt past 0 held) ⌝ }
 {
     let mut woken = 0;
     let mut kept = 0;
-    let mut cell = first;
+    let mut cell = watcher;
     while cell < held {
         let next = watching::next(mem, past, cell, held);
         if next < held {
@@ -57,14 +57,14 @@ fn tally(mem: &[u16], tokens: u16, past: u16, first: usize, held: usize) -> Tall
 }
 
 // Gives each token that watches this one another number to watch, if another holds it; `kept` of them do have one.
-fn renew(mem: &mut [u16], tokens: u16, past: u16, first: usize, held: usize, kept: u16)
+fn renew(mem: &mut [u16], tokens: u16, past: u16, watcher: usize, held: usize, kept: u16)
     requires { ⌜ (lent ≤ length (now mem)) × (tokens ≤ mostTokens) ⌝ }
-    requires { ⌜ (first ≤ held) × (held ≤ mostTokens) ⌝ }
-    requires { ⌜ Unwatched (now mem) past first ⌝ }
+    requires { ⌜ (watcher ≤ held) × (held ≤ mostTokens) ⌝ }
+    requires { ⌜ Unwatched (now mem) past watcher ⌝ }
     requires { ⌜ kept ≡ length (keep (λ t. isHeld (leftHold (factsOf (now mem)) tokens past t)) (siftedFrom true (now mem) deferredAt past 0 held)) ⌝ }
     ensures { λ _. ⌜ now (mem .exit) ≡ sets (now (mem .entry)) watchesAt (renewedFrom (now (mem .entry)) tokens past 0 held) ⌝ }
 {
-    let mut cell = first;
+    let mut cell = watcher;
     let mut left = kept;
     while 0 < left {
         let next = watching::next(mem, past, cell, held);
@@ -82,13 +82,13 @@ fn renew(mem: &mut [u16], tokens: u16, past: u16, first: usize, held: usize, kep
 }
 
 // Stores the tokens that watch this one in the cells from `from` up to `to`, behind the ready queue.
-fn queue_woken(mem: &mut [u16], past: u16, first: usize, held: usize, from: usize, to: usize)
-    requires { ⌜ (lent ≤ length (now mem)) × ((first ≤ held) × (held ≤ mostTokens)) ⌝ }
-    requires { ⌜ Unwatched (now mem) past first ⌝ }
+fn queue_woken(mem: &mut [u16], past: u16, watcher: usize, held: usize, from: usize, to: usize)
+    requires { ⌜ (lent ≤ length (now mem)) × ((watcher ≤ held) × (held ≤ mostTokens)) ⌝ }
+    requires { ⌜ Unwatched (now mem) past watcher ⌝ }
     requires { ⌜ (readyAt ≤ from) × ((to ≤ lent) × (to ≡ from + length (siftedFrom true (now mem) deferredAt past 0 held))) ⌝ }
     ensures { λ _. ⌜ now (mem .exit) ≡ sets (now (mem .entry)) from (siftedFrom true (now (mem .entry)) deferredAt past 0 held) ⌝ }
 {
-    let mut cell = first;
+    let mut cell = watcher;
     let mut at = from;
     while at < to {
         let next = watching::next(mem, past, cell, held);
@@ -100,14 +100,14 @@ fn queue_woken(mem: &mut [u16], past: u16, first: usize, held: usize, from: usiz
 }
 
 // Closes up those numbers of a part in step with the watches whose watches are not this one. The watches of `n` others are.
-fn close_part(mem: &mut [u16], part: usize, past: u16, first: usize, held: usize, n: u16)
-    requires { ⌜ (lent ≤ length (now mem)) × ((first ≤ held) × (held ≤ mostTokens)) ⌝ }
+fn close_part(mem: &mut [u16], part: usize, past: u16, watcher: usize, held: usize, n: u16)
+    requires { ⌜ (lent ≤ length (now mem)) × ((watcher ≤ held) × (held ≤ mostTokens)) ⌝ }
     requires { ⌜ (part ≤ watchesAt) × (n ≡ length (siftedFrom true (now mem) part past 0 held)) ⌝ }
-    requires { ⌜ Unwatched (now mem) past first ⌝ }
+    requires { ⌜ Unwatched (now mem) past watcher ⌝ }
     ensures { λ _. ⌜ now (mem .exit) ≡ sets (now (mem .entry)) part (siftedFrom false (now (mem .entry)) part past 0 held) ⌝ }
 {
-    let mut at = part + first;
-    let mut cell = first;
+    let mut at = part + watcher;
+    let mut cell = watcher;
     let mut left = n;
     while 0 < left {
         let next = watching::next(mem, past, cell, held);
@@ -146,24 +146,24 @@ fn mark_ready(mem: &mut [u16], from: usize, to: usize)
 }
 
 // Closes up the tokens that do not watch this one, with their watches; `n` others do.
-fn close_up(mem: &mut [u16], past: u16, first: usize, held: usize, n: u16)
-    requires { ⌜ (lent ≤ length (now mem)) × ((first ≤ held) × (held ≤ mostTokens)) ⌝ }
+fn close_up(mem: &mut [u16], past: u16, watcher: usize, held: usize, n: u16)
+    requires { ⌜ (lent ≤ length (now mem)) × ((watcher ≤ held) × (held ≤ mostTokens)) ⌝ }
     requires { ⌜ n ≡ length (siftedFrom true (now mem) deferredAt past 0 held) ⌝ }
-    requires { ⌜ Unwatched (now mem) past first ⌝ }
+    requires { ⌜ Unwatched (now mem) past watcher ⌝ }
     ensures { λ _. ⌜ now (mem .exit) ≡ closedBy (now (mem .entry)) held (siftedFrom false (now (mem .entry)) deferredAt past 0 held) (siftedFrom false (now (mem .entry)) watchesAt past 0 held) ⌝ }
 {
-    close_part(mem, DEFERRED, past, first, held, n);
-    close_part(mem, WATCHES, past, first, held, n);
-    let kept = held - (n as usize);
-    clear(mem, DEFERRED + kept, DEFERRED + held);
-    clear(mem, WATCHES + kept, WATCHES + held);
+    close_part(mem, DEFERRED, past, watcher, held, n);
+    close_part(mem, WATCHES, past, watcher, held, n);
+    let staying = held - (n as usize);
+    clear(mem, DEFERRED + staying, DEFERRED + held);
+    clear(mem, WATCHES + staying, WATCHES + held);
 }
 
 // Moves the tokens that still watch this one, `n` of them, to the ready queue, which has room for them.
-fn move_woken(mem: &mut [u16], t: Tables, past: u16, first: usize, n: u16) -> Tables
+fn move_woken(mem: &mut [u16], t: Tables, past: u16, watcher: usize, n: u16) -> Tables
     requires { ⌜ InRange t ⌝ }
     requires { ⌜ (lent ≤ length (now mem)) × (past < t .tokens) ⌝ }
-    requires { ⌜ (first ≤ t .held) × Unwatched (now mem) past first ⌝ }
+    requires { ⌜ (watcher ≤ t .held) × Unwatched (now mem) past watcher ⌝ }
     requires { ⌜ (n ≡ length (siftedFrom true (now mem) deferredAt past 0 (t .held))) × (t .end + n ≤ mostTokens) ⌝ }
     requires { ⌜ Below mostTokens (siftedFrom true (now mem) deferredAt past 0 (t .held)) ⌝ }
     ensures answer { λ r. ⌜ _≡_ {A = Tables} r (record { tokens = t .tokens; count = t .count; first = t .first; end = t .end + n; held = length (siftedFrom false (now (mem .entry)) deferredAt past 0 (t .held)) }) ⌝ }
@@ -172,8 +172,8 @@ fn move_woken(mem: &mut [u16], t: Tables, past: u16, first: usize, n: u16) -> Ta
     let held = t.held as usize;
     let from = READY + (t.end as usize);
     let to = from + (n as usize);
-    queue_woken(mem, past, first, held, from, to);
-    close_up(mem, past, first, held, n);
+    queue_woken(mem, past, watcher, held, from, to);
+    close_up(mem, past, watcher, held, n);
     mark_ready(mem, from, to);
     mem[STANDINGS + (past as usize)] = FINISHED_MARK;
     Tables {
@@ -185,29 +185,29 @@ fn move_woken(mem: &mut [u16], t: Tables, past: u16, first: usize, n: u16) -> Ta
     }
 }
 
-// A token that others watch finishes pipe 0. The first of them is in the cell `first`.
-fn release_watched(mem: &mut [u16], t: Tables, past: u16, first: usize) -> Released
+// A token that others watch finishes pipe 0. The first of them is in the cell `watcher`.
+fn release_watched(mem: &mut [u16], t: Tables, past: u16, watcher: usize) -> Released
     requires { ⌜ InRange t ⌝ }
     requires { ⌜ (lent ≤ length (now mem)) × (past < t .tokens) ⌝ }
-    requires { ⌜ (first ≤ t .held) × Unwatched (now mem) past first ⌝ }
+    requires { ⌜ (watcher ≤ t .held) × Unwatched (now mem) past watcher ⌝ }
     ensures answer { λ r. ⌜ r ≡ releasedOf (releaseOf t past (now (mem .entry))) ⌝ }
     ensures memory { λ _. ⌜ now (mem .exit) ≡ releasedMemory (now (mem .entry)) (releaseOf t past (now (mem .entry))) ⌝ }
 {
     let held = t.held as usize;
-    let found = tally(mem, t.tokens, past, first, held);
+    let found = tally(mem, t.tokens, past, watcher, held);
     let Tally::Known(woken, kept) = found else {
         return Released::Broken;
     };
     if TOKENS - t.end < woken {
         return Released::Broken;
     }
-    renew(mem, t.tokens, past, first, held, kept);
+    renew(mem, t.tokens, past, watcher, held, kept);
     // Where no token wakes nothing moves.
     if woken == 0 {
         mem[STANDINGS + (past as usize)] = FINISHED_MARK;
         return Released::Passed(t);
     }
-    Released::Passed(move_woken(mem, t, past, first, woken))
+    Released::Passed(move_woken(mem, t, past, watcher, woken))
 }
 
 // A token finishes pipe 0: its waiters lose it, and those with none left become ready.
@@ -221,9 +221,9 @@ pub(crate) fn release(mem: &mut [u16], t: Tables, past: u16) -> Released
         return Released::Broken;
     }
     let held = t.held as usize;
-    let first = watching::next(mem, past, 0, held);
-    if first < held {
-        return release_watched(mem, t, past, first);
+    let watcher = watching::next(mem, past, 0, held);
+    if watcher < held {
+        return release_watched(mem, t, past, watcher);
     }
     // Most tokens are watched by none: then only the standing changes.
     mem[STANDINGS + (past as usize)] = FINISHED_MARK;

@@ -31,7 +31,7 @@ numbersOf f t = numbersAt f (getD f (positionsAt + t) 0)
 
 -- rule 1: "A number is still due if it is at least Count or is in the deferred table."
 -- Count and the standings are those at the start of a taking; every token between that Count and this one was passed over,
--- and so is in the table by now. Of the numbers from that Count on only the token itself is not due.
+-- and so is in the table by now. Of the numbers from that Count on, none of which is marked in a run, only the token itself is not due.
 unfoldable pub dueOf : List ℕ → ℕ → ℕ → ℕ → Bool
 dueOf f count t n = if (eqb (standingOf f n) deferredMark) true (mustNot (ltb n count) false (not (eqb n t)))
 

@@ -54,7 +54,7 @@ abbrev pub Unwatched : List ℕ → ℕ → ℕ → Type 0
 Unwatched m d cell = (i : ℕ) → i < cell → getD m (watchesAt + i) 0 ≡ d → ⊥
 
 -- of the tokens that watch this number: n more than those that nothing holds without it, and k more than those that another number
--- holds, unless a record is bad
+-- holds, unless one is no token or has a bad record
 unfoldable pub tallyOf : (ℕ → Hold) → ℕ → ℕ → List ℕ → Tally
 tallyOf hold n k ts =
     mustNot (any (λ t. isUnsound (hold t)) ts) Tally.Unsound
@@ -74,14 +74,14 @@ abbrev pub renewedFrom : List ℕ → ℕ → ℕ → ℕ → ℕ → List ℕ
 renewedFrom m tokens d cell held =
     newWatches (leftHold (factsOf m) tokens d) d (slice (deferredAt + cell) (deferredAt + held) m) (slice (watchesAt + cell) (watchesAt + held) m)
 
--- the tokens of the deferred table that watch a number, and whether a record of one of them is bad
+-- the tokens of the deferred table that watch a number, and whether one of them is no token or has a bad record
 abbrev pub watchersIn : Tables → ℕ → List ℕ → List ℕ
 watchersIn t d m = pick (watches true d) (tableOf t m) (watchesOf t m)
 
 abbrev pub unsoundIn : Tables → ℕ → List ℕ → Bool
 unsoundIn t d m = any (λ n. isUnsound (leftHold (factsOf m) (t .tokens) d n)) (watchersIn t d m)
 
--- the table's watches after a token's finish
+-- the table's watches after a token's finish, those of the tokens that wake still among them
 abbrev pub renewedIn : Tables → ℕ → List ℕ → List ℕ
 renewedIn t d m = newWatches (leftHold (factsOf m) (t .tokens) d) d (tableOf t m) (watchesOf t m)
 
@@ -92,8 +92,8 @@ wokenIn t d m = pick (watches true d) (tableOf t m) (renewedIn t d m)
 abbrev pub stayingIn : Tables → ℕ → List ℕ → List ℕ
 stayingIn t d m = pick (watches false d) (tableOf t m) (renewedIn t d m)
 
-abbrev pub watchingIn : Tables → ℕ → List ℕ → List ℕ
-watchingIn t d m = pick (watches false d) (renewedIn t d m) (renewedIn t d m)
+abbrev pub stayingWatchesIn : Tables → ℕ → List ℕ → List ℕ
+stayingWatchesIn t d m = pick (watches false d) (renewedIn t d m) (renewedIn t d m)
 
 -- rule 4: "One with none left moves from the deferred table to the end of the ready queue."
 unfoldable pub movedTables : Tables → ℕ → List ℕ → Tables
@@ -114,10 +114,10 @@ movedBy m end held d woken staying watching =
     set (marks (closedBy (sets m (readyAt + end) woken) held staying watching) readyMark woken) (standingAt + d) finishedMark
 
 unfoldable pub movedMemory : Tables → ℕ → List ℕ → List ℕ
-movedMemory t d m = movedBy (sets m watchesAt (renewedIn t d m)) (t .end) (t .held) d (wokenIn t d m) (stayingIn t d m) (watchingIn t d m)
+movedMemory t d m = movedBy (sets m watchesAt (renewedIn t d m)) (t .end) (t .held) d (wokenIn t d m) (stayingIn t d m) (stayingWatchesIn t d m)
 
--- rule 4: "When a token finishes pipe 0, its waiters, in the order entered, lose that number." Only those that watch it can have none left.
--- Broken where it is no token, where a record of a token that watches it is bad, or where the queue goes "past its range"
+-- rule 4: "When a token finishes pipe 0, its waiters, in the order entered, lose that number." In a run only those that watch it can have
+-- none left. Broken where it is no token, where one that watches it is no token or has a bad record, or where the queue goes "past its range"
 unfoldable pub releaseOf : Tables → ℕ → List ℕ → Outcome State
 releaseOf t d m =
     mustNot (leb (t .tokens) d) Broken

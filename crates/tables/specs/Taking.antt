@@ -25,7 +25,8 @@ firstFree hold end (t ∷ ts) =
 unfoldable pub findOf : List ℕ → ℕ → ℕ → Count
 findOf f tokens count = firstFree (newHold f count) tokens (span count tokens)
 
--- the watch of a token that is passed over: the number by which it is held (0 where nothing holds it: such a token is not passed over)
+-- the watch of a token that is passed over: the number by which it is held (0 where nothing holds it or its record is bad: such a token
+-- is not passed over)
 unfoldable pub watchOf : List ℕ → ℕ → ℕ → ℕ
 watchOf f count t = byHold (newHold f count t) 0 0 (λ n. n)
 

@@ -7,7 +7,7 @@
 //   24576 .. 28672  the watches, in step with that table: a number by which each of its tokens is held, then zeros
 //   28672 .. 32768  every token that became ready, in order; those at first .. end are queued
 //
-// The first three parts are the facts of the tokens. A pass that reads is handed them as a part of the memory.
+// The first three parts are the facts of the tokens; what is asked of one token is asked of them alone.
 
 // Where the parts begin, after the records. Opening writes the positions too.
 pub const POSITIONS: usize = 12288;

@@ -52,7 +52,7 @@ fn enter(mem: &mut [u16], at: usize, from: u16, to: u16)
     }
 }
 
-// The number by which a new token is held; 0 where nothing holds it.
+// The number by which a new token is held; 0 where nothing holds it or its record is bad.
 fn watch(mem: &[u16], count: u16, token: u16) -> u16
     requires { ⌜ (lent ≤ length (now mem)) × (token < mostTokens) ⌝ }
     ensures { λ r. ⌜ r ≡ watchOf (factsOf (now (mem .entry))) count token ⌝ }

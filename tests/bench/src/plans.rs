@@ -77,15 +77,16 @@ pub fn chain(tokens: u16) -> Plan {
 }
 
 /// Every token but the last is deferred, the first to the last and each other to the one before it: each
-/// finish lets the oldest of all that are left in, which moves all others. No plan is known to us in
-/// which a finish takes longer.
+/// finish lets the oldest of all that are left in, which moves all others. No plan is known to us whose
+/// finishes take longer all in all.
 pub fn oldest_first(tokens: u16) -> Plan {
     let number = |t: u16| t.checked_sub(1).unwrap_or(tokens - 1);
     wide(tokens, (0..tokens - 1).map(|t| (t, vec![number(t)])).collect())
 }
 
 /// 511 tokens wait for the same sixteen, which let each other in backwards: each of their finishes is of
-/// the highest number that the others still wait for, so that all of them must find another.
+/// the highest number that the others still wait for, so that at all but the last of them each must find
+/// another.
 pub fn highest_first(tokens: u16) -> Plan {
     let sixteen = 511..527;
     let waiting = (0..511).map(|t| (t, sixteen.clone().collect()));

@@ -15,7 +15,7 @@ use Rattle.tables.specs.declared.Hold.{Hold}
 use Rattle.tables.specs.declared.Released.{Released}
 use Rattle.tables.specs.Facts.{leftHold}
 use Rattle.tables.specs.State.{InRange, marks, tableOf, watchesOf}
-use Rattle.tables.specs.Releasing.{isFree, pick, siftedFrom, renewedIn, watchersIn, wokenIn, stayingIn, watchingIn, unsoundIn, closedBy, movedBy, movedTables, movedMemory, releaseOf, Unwatched}
+use Rattle.tables.specs.Releasing.{isFree, pick, siftedFrom, renewedIn, watchersIn, wokenIn, stayingIn, stayingWatchesIn, unsoundIn, closedBy, movedBy, movedTables, movedMemory, releaseOf, Unwatched}
 use Rattle.tables.proofs.memory.Cells.{cell-below, cell-from, take-sets, drop-sets, slice-before, slice-sets, sets-slice}
 use Rattle.tables.proofs.memory.MemoryLaws.{slice-same}
 use Rattle.tables.proofs.memory.FactsLaws.{left-by, left-low}
@@ -75,7 +75,7 @@ module _ (t : Tables) (d : ℕ) (m : List ℕ) (ok : InRange t) (whole : 32768 �
     staying-same : siftedFrom false m₁ 20480 d 0 (t .held) ≡ stayingIn t d m
     staying-same = ap₂ (λ xs ws. pick (λ w. not (eqb w d)) xs ws) renewed-table renewed-watches
 
-    watching-same : siftedFrom false m₁ 24576 d 0 (t .held) ≡ watchingIn t d m
+    watching-same : siftedFrom false m₁ 24576 d 0 (t .held) ≡ stayingWatchesIn t d m
     watching-same = ap₂ (λ xs ws. pick (λ w. not (eqb w d)) xs ws) renewed-watches renewed-watches
 
     -- those that still watch the token are the woken
@@ -95,7 +95,7 @@ module _ (t : Tables) (d : ℕ) (m : List ℕ) (ok : InRange t) (whole : 32768 �
         → m′ ≡ movedBy m₁ (t .end) (t .held) d (siftedFrom true m₁ 20480 d 0 (t .held)) (siftedFrom false m₁ 20480 d 0 (t .held)) (siftedFrom false m₁ 24576 d 0 (t .held))
         → m′ ≡ movedMemory t d m
     unfolding movedMemory
-    memory-is e = e ∙ parts woken-same staying-same watching-same ∙ ap (λ l. movedBy l (t .end) (t .held) d (wokenIn t d m) (stayingIn t d m) (watchingIn t d m)) renewed
+    memory-is e = e ∙ parts woken-same staying-same watching-same ∙ ap (λ l. movedBy l (t .end) (t .held) d (wokenIn t d m) (stayingIn t d m) (stayingWatchesIn t d m)) renewed
       where
         parts : {w w′ s s′ v v′ : List ℕ} → w ≡ w′ → s ≡ s′ → v ≡ v′ → movedBy m₁ (t .end) (t .held) d w s v ≡ movedBy m₁ (t .end) (t .held) d w′ s′ v′
         parts e f g = rw (e, f, g)
@@ -105,7 +105,7 @@ module _ (t : Tables) (d : ℕ) (m : List ℕ) (ok : InRange t) (whole : 32768 �
       table-stays : (wokenIn t d m ≡ []) × (stayingIn t d m ≡ tableOf t m)
       table-stays = pick-none (λ w. eqb w d) (tableOf t m) (renewedIn t d m) (renewed-in-step t m ok whole d) asleep
 
-      watches-stay : watchingIn t d m ≡ renewedIn t d m
+      watches-stay : stayingWatchesIn t d m ≡ renewedIn t d m
       watches-stay =
           pick-none (λ w. eqb w d) (renewedIn t d m) (renewedIn t d m) refl (pick-same (λ w. eqb w d) (renewedIn t d m) (tableOf t m) (renewedIn t d m) (renewed-in-step t m ok whole d) ∙ asleep) .1
 
@@ -121,7 +121,7 @@ module _ (t : Tables) (d : ℕ) (m : List ℕ) (ok : InRange t) (whole : 32768 �
       none-memory =
           same-memory m₁ (t .end) (t .held) d (ok .held) (rw (renewed, length-sets m 24576 (renewedIn t d m)) whole) (table-stays .0)
           (table-stays .1 ∙ sym renewed-table) (watches-stay ∙ sym renewed-watches) staying-held
-          ∙ ap (λ l. movedBy l (t .end) (t .held) d (wokenIn t d m) (stayingIn t d m) (watchingIn t d m)) renewed
+          ∙ ap (λ l. movedBy l (t .end) (t .held) d (wokenIn t d m) (stayingIn t d m) (stayingWatchesIn t d m)) renewed
 
   -- where no token watches it all watches are as before
   module _ (nobody : siftedFrom true m 20480 d 0 (t .held) ≡ []) where

@@ -15,7 +15,7 @@ use Rattle.rules.specs.Sources.{Passed}
 use Rattle.tables.specs.declared.Tables.{Tables}
 use Rattle.tables.specs.Facts.{standingOf, leftHold}
 use Rattle.tables.specs.State.{State, marks, tableOf, watchesOf}
-use Rattle.tables.specs.Releasing.{isUnsound, pick, newWatches, renewedIn, wokenIn, stayingIn, watchingIn, unsoundIn, movedTables, movedMemory, releaseOf}
+use Rattle.tables.specs.Releasing.{isUnsound, pick, newWatches, renewedIn, wokenIn, stayingIn, stayingWatchesIn, unsoundIn, movedTables, movedMemory, releaseOf}
 use Rattle.tables.specs.Matching.{Recorded, Watched, Standing, Match, nobody, only}
 use Rattle.rules.proofs.lists.Members.{below-mono}
 use Rattle.tables.proofs.memory.Cells.{take-less, take-sets, drop-sets, drop-more, slice-before, slice-sets}
@@ -199,7 +199,7 @@ module _ (tokens : ℕ) (numbers : ℕ → List ℕ) (a : rules.Tables) (t : Tab
   parts : length (wokenIn t d m) + length (stayingIn t d m) ≡ t .held
   parts = all-moved t m (p .range) (p .whole) d
 
-  steps : length (watchingIn t d m) ≡ length (stayingIn t d m)
+  steps : length (stayingWatchesIn t d m) ≡ length (stayingIn t d m)
   steps = even t m (p .range) (p .whole) d
 
   releases : releaseOf t d m ≡ Passed (movedTables t d m, movedMemory t d m)
@@ -227,25 +227,25 @@ module _ (tokens : ℕ) (numbers : ℕ → List ℕ) (a : rules.Tables) (t : Tab
 
   long : length (movedMemory t d m) ≡ length m
   unfolding movedMemory moved readied cleared halfway freed closed shut queued watched
-  long = moved-length m (p .whole) (t .end) (t .held) d (renewedIn t d m) (wokenIn t d m) (stayingIn t d m) (watchingIn t d m) renewed-size room short steps (p .range .held) woken-low low
+  long = moved-length m (p .whole) (t .end) (t .held) d (renewedIn t d m) (wokenIn t d m) (stayingIn t d m) (stayingWatchesIn t d m) renewed-size room short steps (p .range .held) woken-low low
 
   after-queue : slice (28672 + t .first) (28672 + (t .end + length (wokenIn t d m))) (movedMemory t d m) ≡ rules.release d a .ready
   unfolding movedMemory moved readied cleared halfway freed closed shut queued watched rules.release after
   after-queue =
-      moved-queue m (p .whole) (t .end) (t .held) d (renewedIn t d m) (wokenIn t d m) (stayingIn t d m) (watchingIn t d m) renewed-size room short steps (p .range .held) woken-low low (t .first) (p .range .queue)
+      moved-queue m (p .whole) (t .end) (t .held) d (renewedIn t d m) (wokenIn t d m) (stayingIn t d m) (stayingWatchesIn t d m) renewed-size room short steps (p .range .held) woken-low low (t .first) (p .range .queue)
       ∙ ap₂ _++_ (p .queue) (woken-is ∙ sym (woken-are numbers (take 20480 m) tokens d (p .records) (a .deferred) (watchesOf t m) (p .standing .waiting) low-table (p .watched)))
 
   after-table : slice 20480 (20480 + length (stayingIn t d m)) (movedMemory t d m) ≡ tokensOf (rules.release d a .deferred)
   unfolding movedMemory moved readied cleared halfway freed closed shut queued watched rules.release after
   after-table =
-      moved-table m (p .whole) (t .end) (t .held) d (renewedIn t d m) (wokenIn t d m) (stayingIn t d m) (watchingIn t d m) renewed-size room short steps (p .range .held) woken-low low
+      moved-table m (p .whole) (t .end) (t .held) d (renewedIn t d m) (wokenIn t d m) (stayingIn t d m) (stayingWatchesIn t d m) renewed-size room short steps (p .range .held) woken-low low
       ∙ staying-is ∙ sym (staying-are numbers (take 20480 m) tokens d (p .records) (a .deferred) (watchesOf t m) (p .standing .waiting) low-table (p .watched))
 
   after-watched : Watched (rules.release d a .deferred) (slice 24576 (24576 + length (stayingIn t d m)) (movedMemory t d m))
   unfolding movedMemory moved readied cleared halfway freed closed shut queued watched rules.release after
   after-watched =
       subst (Watched (rules.release d a .deferred))
-      (sym (moved-watches m (p .whole) (t .end) (t .held) d (renewedIn t d m) (wokenIn t d m) (stayingIn t d m) (watchingIn t d m) renewed-size room short steps (p .range .held) woken-low low
+      (sym (moved-watches m (p .whole) (t .end) (t .held) d (renewedIn t d m) (wokenIn t d m) (stayingIn t d m) (stayingWatchesIn t d m) renewed-size room short steps (p .range .held) woken-low low
       ∙ ap (λ ws. pick (λ w. not (eqb w d)) ws ws) renewed-is))
       (watched-after numbers (take 20480 m) tokens d (p .records) (a .deferred) (watchesOf t m) (p .standing .waiting) low-table (p .watched))
 
@@ -253,14 +253,14 @@ module _ (tokens : ℕ) (numbers : ℕ → List ℕ) (a : rules.Tables) (t : Tab
   unfolding movedMemory moved readied cleared halfway freed closed shut queued watched
   after-records n l =
       recorded-kept m (movedMemory t d m)
-      (moved-records m (p .whole) (t .end) (t .held) d (renewedIn t d m) (wokenIn t d m) (stayingIn t d m) (watchingIn t d m) renewed-size room short steps (p .range .held) woken-low low)
+      (moved-records m (p .whole) (t .end) (t .held) d (renewedIn t d m) (wokenIn t d m) (stayingIn t d m) (stayingWatchesIn t d m) renewed-size room short steps (p .range .held) woken-low low)
       long (p .whole) n (omega (arith, p .size, p .range .tokens)) (p .records n l)
 
   after-standing : Standing numbers (rules.release d a) (standingOf (take 20480 (movedMemory t d m))) nobody
   unfolding movedMemory moved readied cleared halfway freed closed shut queued watched after
   after-standing =
       subst (λ s. Standing numbers (rules.release d a) s nobody)
-      (sym (moved-standing m (p .whole) (t .end) (t .held) d (renewedIn t d m) (wokenIn t d m) (stayingIn t d m) (watchingIn t d m) renewed-size room short steps (p .range .held) woken-low low
+      (sym (moved-standing m (p .whole) (t .end) (t .held) d (renewedIn t d m) (wokenIn t d m) (stayingIn t d m) (stayingWatchesIn t d m) renewed-size room short steps (p .range .held) woken-low low
       ∙ ap (finished (standingOf (take 20480 m)) d)
       (woken-is ∙ sym (woken-are numbers (take 20480 m) tokens d (p .records) (a .deferred) (watchesOf t m) (p .standing .waiting) low-table (p .watched)))))
       (release-standing numbers (take 20480 m) d a (p .standing))

@@ -10,7 +10,7 @@ use lib.Seq.{length-slice}
 use Rattle.tables.specs.declared.Tables.{Tables}
 use Rattle.tables.specs.Facts.{leftHold}
 use Rattle.tables.specs.State.{InRange, tableOf, watchesOf}
-use Rattle.tables.specs.Releasing.{renewedIn, wokenIn, stayingIn, watchingIn}
+use Rattle.tables.specs.Releasing.{renewedIn, wokenIn, stayingIn, stayingWatchesIn}
 use Rattle.tables.proofs.memory.PickLaws.{pick-same, pick-all, length-new}
 
 module _ (t : Tables) (m : List ℕ) (ok : InRange t) (whole : 32768 ≤ length m) where
@@ -35,5 +35,5 @@ module _ (t : Tables) (m : List ℕ) (ok : InRange t) (whole : 32768 ≤ length 
     pub all-moved : length (wokenIn t d m) + length (stayingIn t d m) ≡ t .held
     all-moved = pick-all (λ w. eqb w d) (tableOf t m) (renewedIn t d m) renewed-in-step ∙ table-length
 
-    pub even : length (watchingIn t d m) ≡ length (stayingIn t d m)
+    pub even : length (stayingWatchesIn t d m) ≡ length (stayingIn t d m)
     even = pick-same (λ w. not (eqb w d)) (renewedIn t d m) (tableOf t m) (renewedIn t d m) renewed-in-step

@@ -18,7 +18,7 @@ use Rattle.tables.specs.Layout.{factsOf}
 use Rattle.tables.specs.Facts.{leftHold}
 use Rattle.tables.specs.State.{InRange, soundOf, span, marks, tableOf, watchesOf}
 use Rattle.tables.specs.Taking.{findOf, watchOf, deferredBy, deferredUpto, oldestOf, takeUpto, takeReady, takeOf}
-use Rattle.tables.specs.Releasing.{isUnsound, pick, newWatches, watchersIn, renewedIn, wokenIn, stayingIn, watchingIn, unsoundIn, closedBy, movedBy, movedTables, movedMemory, releaseOf}
+use Rattle.tables.specs.Releasing.{isUnsound, pick, newWatches, watchersIn, renewedIn, wokenIn, stayingIn, stayingWatchesIn, unsoundIn, closedBy, movedBy, movedTables, movedMemory, releaseOf}
 use Rattle.tables.specs.Matching.{beyond}
 use Rattle.tables.specs.Calls.{safeTake, safeRelease, memorySource}
 use Rattle.rules.proofs.lists.Members.{below-range, length-range}
@@ -136,7 +136,7 @@ module _ (r : List ℕ) where
     staying-same : (d : ℕ) → stayingIn t d (m ++ r) ≡ stayingIn t d m
     staying-same d = ap₂ (λ xs ws. pick (λ w. not (eqb w d)) xs ws) table-beyond (renewed-same d)
 
-    watching-same : (d : ℕ) → watchingIn t d (m ++ r) ≡ watchingIn t d m
+    watching-same : (d : ℕ) → stayingWatchesIn t d (m ++ r) ≡ stayingWatchesIn t d m
     watching-same d = ap (λ ws. pick (λ w. not (eqb w d)) ws ws) (renewed-same d)
 
     unsound-same : (d : ℕ) → unsoundIn t d (m ++ r) ≡ unsoundIn t d m
@@ -146,9 +146,9 @@ module _ (r : List ℕ) where
     unfolding movedMemory
     moved-beyond d sound low room =
         parts (renewed-same d) (woken-same d) (staying-same d) (watching-same d)
-        ∙ ap (λ l. movedBy l (t .end) (t .held) d (wokenIn t d m) (stayingIn t d m) (watchingIn t d m))
+        ∙ ap (λ l. movedBy l (t .end) (t .held) d (wokenIn t d m) (stayingIn t d m) (stayingWatchesIn t d m))
         (sets-beyond (renewedIn t d m) m 24576 (omega (arith, ok .held, renewed-length t m ok whole d)))
-        ∙ passes-beyond (sets m 24576 (renewedIn t d m)) (wokenIn t d m) (stayingIn t d m) (watchingIn t d m) (t .end) (t .held) d (rw length-sets whole) room
+        ∙ passes-beyond (sets m 24576 (renewedIn t d m)) (wokenIn t d m) (stayingIn t d m) (stayingWatchesIn t d m) (t .end) (t .held) d (rw length-sets whole) room
         (omega (arith, all-moved t m ok whole d)) (even t m ok whole d) (ok .held) (woken-below t d m ok whole sound) (omega (arith, ok .tokens))
       where
         parts : {n n′ w w′ s s′ v v′ : List ℕ} → n ≡ n′ → w ≡ w′ → s ≡ s′ → v ≡ v′ →

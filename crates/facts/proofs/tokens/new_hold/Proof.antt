@@ -4,11 +4,11 @@ use Rattle.tables.proofs.memory.FactsLaws as laws
 use Rattle.facts.proofs.tokens.new_hold.Statement.{statement}
 use Rattle.facts.proofs.tokens.new_hold.Tie as tie
 
-held-requires : tie.Need-held-requires
-held-requires c κs = search needs
+held-by-requires : tie.Need-held-by-requires
+held-by-requires c κs = search needs
 
 returns : tie.Need-returns
-returns c = laws.new-is _ _ _ (c .held .ensures)
+returns c = laws.new-is _ _ _ (c .held-by .ensures)
 
 pub new-hold-spec : {M : Type 1} → statement M
-new-hold-spec = tie.close (tie.spec held-requires returns)
+new-hold-spec = tie.close (tie.spec held-by-requires returns)

@@ -13,11 +13,11 @@ use Rattle.loading.proofs.layout.copy_records.Statement.{statement}
 use Rattle.loading.proofs.layout.copy_records.Tie as tie
 
 abbrev Inv-loop : tie.InvT-loop
-Inv-loop part mem₀ at₀ place₀ mem at place =
-    (length mem ≡ length mem₀) × Left copying part (sets mem₀ 0 (recordsFields (recordsIn part))) mem at place
+Inv-loop part mem₀ at₀ position₀ mem at position =
+    (length mem ≡ length mem₀) × Left copying part (sets mem₀ 0 (recordsFields (recordsIn part))) mem at position
 
 abbrev μ-loop : tie.MeasureT-loop
-μ-loop part mem₀ at₀ place₀ mem at place = length part - at
+μ-loop part mem₀ at₀ position₀ mem at position = length part - at
 
 loop-holds : tie.Need-loop-holds Inv-loop μ-loop
 loop-holds c = (search needs, left-first copying (c .before .before .pre .1))
@@ -32,7 +32,7 @@ field-or-zero-requires c κs = search needs
 found : (c : tie.After-field-or-zero Inv-loop μ-loop) →
     let l = c .before .before in
     let args = l .before .before .before .args in
-    First copying (args .part .now) (sets (args .mem .now) 0 (recordsFields (recordsIn (args .part .now)))) (l .loop .mem) (l .loop .at) (l .loop .place)
+    First copying (args .part .now) (sets (args .mem .now) 0 (recordsFields (recordsIn (args .part .now)))) (l .loop .mem) (l .loop .at) (l .loop .position)
     (c .field-or-zero .result)
 found c =
     let l = c .before .before in
@@ -66,11 +66,11 @@ part-copy-fields-end c = omega (arith, found c .inside)
 copy-fields-requires : tie.Need-copy-fields-requires Inv-loop μ-loop
 copy-fields-requires c κs = let f = found (c .before .before) in simp length-take (omega (arith, f .room))
 
-add-place : tie.Need-add-place Inv-loop μ-loop
-add-place c = let f = found (c .before .before .before .before .before) in omega (arith, f .room)
+add-position : tie.Need-add-position Inv-loop μ-loop
+add-position c = let f = found (c .before .before .before .before .before) in omega (arith, f .room)
 
-add-place-2 : tie.Need-add-place-2 Inv-loop μ-loop
-add-place-2 c = let f = found (c .before .before .before .before .before) in omega (arith, f .room)
+add-position-2 : tie.Need-add-position-2 Inv-loop μ-loop
+add-position-2 c = let f = found (c .before .before .before .before .before) in omega (arith, f .room)
 
 loop-less : tie.Need-loop-less Inv-loop μ-loop
 loop-less c = let f = found (c .before .before .before .before .before) in omega (arith, f .inside)
@@ -108,8 +108,8 @@ copy-records-spec =
     part-copy-fields-start
     part-copy-fields-end
     copy-fields-requires
-    add-place
-    add-place-2
+    add-position
+    add-position-2
     loop-less
     loop-again
     same-length

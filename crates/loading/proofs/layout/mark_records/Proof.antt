@@ -13,11 +13,11 @@ use Rattle.loading.proofs.layout.mark_records.Statement.{statement}
 use Rattle.loading.proofs.layout.mark_records.Tie as tie
 
 abbrev Inv-loop : tie.InvT-loop
-Inv-loop part mem₀ at₀ place₀ mem at place =
-    (length mem ≡ length mem₀) × Left marking part (pointed mem₀ 0 (recordsIn part)) mem at place
+Inv-loop part mem₀ at₀ position₀ mem at position =
+    (length mem ≡ length mem₀) × Left marking part (pointed mem₀ 0 (recordsIn part)) mem at position
 
 abbrev μ-loop : tie.MeasureT-loop
-μ-loop part mem₀ at₀ place₀ mem at place = length part - at
+μ-loop part mem₀ at₀ position₀ mem at position = length part - at
 
 loop-holds : tie.Need-loop-holds Inv-loop μ-loop
 loop-holds c = (search needs, left-first marking (c .before .before .pre .1))
@@ -38,7 +38,7 @@ field-or-zero-requires-2 c κs = omega (arith, begun (c .before .before .loop .i
 found : (c : tie.After-field-or-zero2 Inv-loop μ-loop) →
     let l = c .before .before .before in
     let args = l .before .before .before .args in
-    First marking (args .part .now) (pointed (args .mem .now) 0 (recordsIn (args .part .now))) (l .loop .mem) (l .loop .at) (l .loop .place)
+    First marking (args .part .now) (pointed (args .mem .now) 0 (recordsIn (args .part .now))) (l .loop .mem) (l .loop .at) (l .loop .position)
     (c .field-or-zero2 .result)
 found c =
     let l = c .before .before .before in
@@ -69,11 +69,11 @@ mul-mem c = search needs
 slice-write-mem : tie.Need-slice-write-mem Inv-loop μ-loop
 slice-write-mem c = omega (arith, small c, found c .room, found c .inside)
 
-add-place : tie.Need-add-place Inv-loop μ-loop
-add-place c = omega (arith, small c, found c .room, found c .inside)
+add-position : tie.Need-add-position Inv-loop μ-loop
+add-position c = omega (arith, small c, found c .room, found c .inside)
 
-add-place-2 : tie.Need-add-place-2 Inv-loop μ-loop
-add-place-2 c = omega (arith, small c, found c .room, found c .inside)
+add-position-2 : tie.Need-add-position-2 Inv-loop μ-loop
+add-position-2 c = omega (arith, small c, found c .room, found c .inside)
 
 cast-at : tie.Need-cast-at Inv-loop μ-loop
 cast-at c = search needs
@@ -114,8 +114,8 @@ mark-records-spec =
     add-mem-2
     mul-mem
     slice-write-mem
-    add-place
-    add-place-2
+    add-position
+    add-position-2
     cast-at
     mul-at
     add-at

@@ -33,12 +33,12 @@ watched : (c : tie.After-close-part2) → let at-first = first-of c in let start
     c .close-part2 .last .0 ≡ sets (at-first .close-part .last .0) 24576 (siftedFrom false (at-first .close-part .last .0) 24576 (start .args .past) 0 (start .args .held))
 watched c = c .close-part2 .ensures
 
-cleared : (c : tie.After-clear) → let at-second = second-of c in let start = entry-of (first-of at-second) in let kept = start .args .held - start .args .n in
-    c .clear .last .0 ≡ sets (at-second .close-part2 .last .0) (20480 + kept) (replicate (20480 + start .args .held - (20480 + kept)) 0)
+cleared : (c : tie.After-clear) → let at-second = second-of c in let start = entry-of (first-of at-second) in let staying = start .args .held - start .args .n in
+    c .clear .last .0 ≡ sets (at-second .close-part2 .last .0) (20480 + staying) (replicate (20480 + start .args .held - (20480 + staying)) 0)
 cleared c = c .clear .ensures
 
-freed : (c : tie.After-clear2) → let at-clear = clear-of c in let start = entry-of (first-of (second-of at-clear)) in let kept = start .args .held - start .args .n in
-    c .clear2 .last .0 ≡ sets (at-clear .clear .last .0) (24576 + kept) (replicate (24576 + start .args .held - (24576 + kept)) 0)
+freed : (c : tie.After-clear2) → let at-clear = clear-of c in let start = entry-of (first-of (second-of at-clear)) in let staying = start .args .held - start .args .n in
+    c .clear2 .last .0 ≡ sets (at-clear .clear .last .0) (24576 + staying) (replicate (24576 + start .args .held - (24576 + staying)) 0)
 freed c = c .clear2 .ensures
 
 -- not more watch the token than there are
@@ -59,8 +59,8 @@ close-part-requires-2 c κs =
       ),
     )
 
-sub-kept : tie.Need-sub-kept
-sub-kept c = omega (arith, fewer (entry-of (first-of (c .before .before))))
+sub-staying : tie.Need-sub-staying
+sub-staying c = omega (arith, fewer (entry-of (first-of (c .before .before))))
 
 add-clear : tie.Need-add-clear
 add-clear c = search needs
@@ -99,7 +99,7 @@ close-up-spec =
     (tie.spec
     close-part-requires
     close-part-requires-2
-    sub-kept
+    sub-staying
     add-clear
     add-clear-2
     clear-requires

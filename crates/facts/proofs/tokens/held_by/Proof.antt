@@ -1,9 +1,9 @@
--- `facts::tokens::held` meets its contract.
+-- `facts::tokens::held_by` meets its contract.
 use borrow.Author.Needs.{needs}
 use native.Mathlib.Omega.{arith}
 use Rattle.tables.proofs.memory.FactsLaws as laws
-use Rattle.facts.proofs.tokens.held.Statement.{statement}
-use Rattle.facts.proofs.tokens.held.Tie as tie
+use Rattle.facts.proofs.tokens.held_by.Statement.{statement}
+use Rattle.facts.proofs.tokens.held_by.Tie as tie
 
 numbers-requires : tie.Need-numbers-requires
 numbers-requires c κs = search needs
@@ -41,8 +41,8 @@ returns-2 c =
     let at-numbers = at-found .before .before in
     laws.held-part _ _ _ (at-numbers .numbers .ensures) (at-found .found .given .1) (c .last .ensures)
 
-pub held-spec : {M : Type 1} → statement M
-held-spec =
+pub held-by-spec : {M : Type 1} → statement M
+held-by-spec =
     tie.close
     (tie.spec
     numbers-requires
