@@ -1,4 +1,5 @@
 // A token's finish at pipe 0, on tables whose numbers are within their ranges.
+// The passes begin at the first cell that watches the token; those that write know how many are left, so that there is a next cell as long as one is.
 use crate::moving::move_down;
 use crate::watching;
 use facts::left_hold;
