@@ -31,7 +31,7 @@ fn tally(mem: &[u16], tokens: u16, past: u16, watcher: usize, held: usize) -> Ta
     requires { ⌜ (lent ≤ length (now mem)) × (tokens ≤ mostTokens) ⌝ }
     requires { ⌜ (watcher ≤ held) × (held ≤ mostTokens) ⌝ }
     requires { ⌜ Unwatched (now mem) past watcher ⌝ }
-    ensures { λ r. ⌜ r ≡ tallyOf (leftHold (factsOf (now (mem .entry))) tokens past) 0 0 (siftedFrom true (now (mem .entry)) deferredAt past 0 held) ⌝ }
+    ensures { λ r. ⌜ r ≡ tallyOf (leftHold (factsOf (now (mem .entry))) tokens past) (siftedFrom true (now (mem .entry)) deferredAt past 0 held) ⌝ }
 {
     let mut woken = 0;
     let mut kept = 0;

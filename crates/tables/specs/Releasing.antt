@@ -14,7 +14,7 @@ use Rattle.tables.specs.declared.Hold.{Hold}
 use Rattle.tables.specs.declared.Tally.{Tally}
 use Rattle.tables.specs.Layout.{standingAt, deferredAt, watchesAt, readyAt, mostTokens, readyMark, finishedMark, factsOf}
 use Rattle.tables.specs.Facts.{byHold, leftHold}
-use Rattle.tables.specs.State.{State, marks, tableOf, watchesOf}
+use Rattle.tables.specs.State.{State, marks, tableOf}
 
 abbrev pub isFree : Hold → Bool
 isFree x = byHold x false true (λ n. false)
@@ -53,12 +53,11 @@ nextFrom m d cell held = nextIn d cell (slice (watchesAt + cell) (watchesAt + he
 abbrev pub Unwatched : List ℕ → ℕ → ℕ → Type 0
 Unwatched m d cell = (i : ℕ) → i < cell → getD m (watchesAt + i) 0 ≡ d → ⊥
 
--- of the tokens that watch this number: n more than those that nothing holds without it, and k more than those that another number
--- holds, unless one is no token or has a bad record
-unfoldable pub tallyOf : (ℕ → Hold) → ℕ → ℕ → List ℕ → Tally
-tallyOf hold n k ts =
+-- of some tokens: how many nothing holds, and how many a number does, unless one is no token or has a bad record
+unfoldable pub tallyOf : (ℕ → Hold) → List ℕ → Tally
+tallyOf hold ts =
     mustNot (any (λ t. isUnsound (hold t)) ts) Tally.Unsound
-    (Tally.Known (n + length (keep (λ t. isFree (hold t)) ts)) (k + length (keep (λ t. isHeld (hold t)) ts)))
+    (Tally.Known (length (keep (λ t. isFree (hold t)) ts)) (length (keep (λ t. isHeld (hold t)) ts)))
 
 -- the watch of a token after the finish of d: another where it watches d and another number holds it, else as before
 unfoldable pub newWatch : (ℕ → Hold) → ℕ → ℕ → ℕ → ℕ
@@ -76,14 +75,14 @@ renewedFrom m tokens d cell held =
 
 -- the tokens of the deferred table that watch a number, and whether one of them is no token or has a bad record
 abbrev pub watchersIn : Tables → ℕ → List ℕ → List ℕ
-watchersIn t d m = pick (watches true d) (tableOf t m) (watchesOf t m)
+watchersIn t d m = siftedFrom true m deferredAt d 0 (t .held)
 
 abbrev pub unsoundIn : Tables → ℕ → List ℕ → Bool
 unsoundIn t d m = any (λ n. isUnsound (leftHold (factsOf m) (t .tokens) d n)) (watchersIn t d m)
 
 -- the table's watches after a token's finish, those of the tokens that wake still among them
 abbrev pub renewedIn : Tables → ℕ → List ℕ → List ℕ
-renewedIn t d m = newWatches (leftHold (factsOf m) (t .tokens) d) d (tableOf t m) (watchesOf t m)
+renewedIn t d m = renewedFrom m (t .tokens) d 0 (t .held)
 
 -- the tokens that no other number holds: they watch it still, and wake; the others stay, with their watches
 abbrev pub wokenIn : Tables → ℕ → List ℕ → List ℕ

@@ -128,9 +128,11 @@ impl Case {
         let Kind { deferral, shape, tokens, order } = self.kind;
         let (deferral, shape, order) = (deferral.name(), shape.name(), order.name());
         for choices in &self.lists {
-            check::same(&self.file, self.workers, choices, mem).map_err(|why| {
-                format!("deferral: {deferral}, pipes and lines: {shape}, N = {tokens}, order: {order}: {why}")
-            })?;
+            let same = check::same(&self.file, self.workers, choices, mem);
+            same.and_then(|()| check::same_as_before(&self.file, self.workers, choices, mem))
+                .map_err(|why| {
+                    format!("deferral: {deferral}, pipes and lines: {shape}, N = {tokens}, order: {order}: {why}")
+                })?;
         }
         Ok(())
     }

@@ -9,6 +9,18 @@ const RANDOM_PLANS: usize = 5000;
 
 type Outcome = Result<(), String>;
 
+/// An older archive, where one is linked, gives the same checksum.
+pub fn same_as_before(file: &[u8], workers: u16, choices: &[Choice], mem: &mut [u16]) -> Outcome {
+    match engine::BEFORE {
+        Some(run_before)
+            if run_before(file, workers, choices, mem) != plain::run(file, workers, choices) =>
+        {
+            Err("the older archive has another checksum".to_string())
+        }
+        _ => Ok(()),
+    }
+}
+
 /// Both sides make the same whole run, else it says which choice they first differ at.
 pub fn same(file: &[u8], workers: u16, choices: &[Choice], mem: &mut [u16]) -> Outcome {
     let opening = engine::run(file, workers, &[], mem);

@@ -29,9 +29,9 @@ fn measure<'a>(cases: &'a [cases::Case], mem: &mut [u16]) -> Vec<Measured<'a>> {
     for _ in 0..ROUNDS {
         for Measured { case, engine, before, plain } in &mut measured {
             time(case, engine, |file, workers, choices| engine::run(file, workers, choices, mem));
-            if engine::BEFORE {
+            if let Some(run_before) = engine::BEFORE {
                 time(case, before, |file, workers, choices| {
-                    engine::run_before(file, workers, choices, mem)
+                    run_before(file, workers, choices, mem)
                 });
             }
             time(case, plain, plain::run);

@@ -30,12 +30,12 @@ pub fn print_times(measured: &[Measured]) {
          slowest round is above the quickest.\n",
         POSITIONS.len()
     );
-    let before = if engine::BEFORE { " before, lowest | to before |" } else { "" };
+    let before = if engine::BEFORE.is_some() { " before, lowest | to before |" } else { "" };
     println!(
         "| deferral | pipes and lines | N | order | choices | engine, median | engine, lowest \
          | plain, median | plain, lowest | ratio | engine noise | plain noise |{before}"
     );
-    let before = if engine::BEFORE { "--:|--:|" } else { "" };
+    let before = if engine::BEFORE.is_some() { "--:|--:|" } else { "" };
     println!("|---|---|--:|---|--:|--:|--:|--:|--:|--:|--:|--:|{before}");
     for Measured { case, engine, before, plain } in measured {
         let Kind { deferral, shape, tokens, order } = case.kind;
@@ -53,7 +53,7 @@ pub fn print_times(measured: &[Measured]) {
             engine.noise(),
             plain.noise(),
         );
-        if engine::BEFORE {
+        if engine::BEFORE.is_some() {
             print!(" {:.2} | {:.2} |", before.lowest(), engine.ratio_to(before));
         }
         println!();
@@ -106,7 +106,7 @@ fn print_wide<'a>(none: Kind, find: &impl Fn(Kind) -> &'a Measured<'a>) {
             find(Kind { deferral, ..none }).engine.ratio_to(large),
         );
     }
-    if engine::BEFORE {
+    if engine::BEFORE.is_some() {
         print_verdict(
             "engine without deferral / before, highest over N",
             none,

@@ -11,7 +11,7 @@ use Rattle.tables.proofs.memory.Cells.{drop-more, drop-sets, cell-from,
 use Rattle.tables.proofs.memory.MemoryLaws.{slice-same}
 use Rattle.tables.proofs.code.MovingLaws.{sets-append}
 use Rattle.tables.proofs.code.ScanLaws.{Next, next-same}
-use Rattle.tables.proofs.code.SiftLaws.{watchers-skip, watcher-next, watcher-out, others-stay, next-inside, first-skip, first-stay, all-stay}
+use Rattle.tables.proofs.code.SiftLaws.{watcher-found, watcher-left-out, next-inside, first-skip, first-stay, all-stay}
 
 -- a part is closed up by the watches, with n cells left that watch the number: the cells not yet read are as at first, and what is
 -- left to store gives the whole
@@ -84,12 +84,10 @@ module _ {m₀ : List ℕ} {base d held : ℕ} {m : List ℕ} {at cell n : ℕ} 
     close-inside = next-inside m₀ base d held room room′ next₀ (omega (arith, inv .count))
 
     split : siftedFrom false m₀ base d cell held ≡ slice (base + cell) (base + r) m₀ ++ siftedFrom false m₀ base d (r + 1) held
-    split =
-        others-stay m₀ base d held room room′ next₀
-        ∙ ap (λ (l : List ℕ). slice (base + cell) (base + r) m₀ ++ l) (watcher-out m₀ base d held room room′ close-inside (next₀ .hit close-inside))
+    split = watcher-left-out m₀ base d held room room′ next₀ close-inside
 
     fewer : length (siftedFrom true m₀ base d cell held) ≡ suc (length (siftedFrom true m₀ base d (r + 1) held))
-    fewer = ap length (watchers-skip m₀ base d held room room′ next₀ ∙ watcher-next m₀ base d held room room′ close-inside (next₀ .hit close-inside))
+    fewer = ap length (watcher-found m₀ base d held room room′ next₀ close-inside)
 
     pub close-one : {m′ : List ℕ} → m′ ≡ sets m at (slice (base + cell) (base + r) m) → Closing m₀ base d held m′ (at + (r - cell)) (r + 1) (n - 1)
     close-one stored =

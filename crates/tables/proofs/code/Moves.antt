@@ -19,7 +19,7 @@ use Rattle.tables.specs.Releasing.{isFree, pick, siftedFrom, renewedIn, 
 use Rattle.tables.proofs.memory.Cells.{cell-below, cell-from, take-sets, drop-sets, slice-before, slice-sets, sets-slice}
 use Rattle.tables.proofs.memory.MemoryLaws.{slice-same}
 use Rattle.tables.proofs.memory.FactsLaws.{left-by, left-low}
-use Rattle.tables.proofs.memory.PickLaws.{pick-most, pick-same, pick-none, new-unheld, new-apart, still-watching, watching-below}
+use Rattle.tables.proofs.memory.PickLaws.{pick-same, pick-none, new-unheld, new-apart, still-watching, watching-below}
 use Rattle.tables.proofs.memory.TableLaws.{table-length, watches-length, in-step, renewed-length, renewed-in-step}
 use Rattle.tables.proofs.code.ScanLaws.{Next}
 use Rattle.tables.proofs.code.SiftLaws.{sifted-end, watchers-skip, stay-count}
@@ -144,9 +144,9 @@ module _ (t : Tables) (d : ℕ) (m : List ℕ) (ok : InRange t) (whole : 32768 �
 
 -- closing up: the tokens, their watches, and the freed cells of both
 module _ (m : List ℕ) (d held : ℕ) (whole : 32768 ≤ length m) (most : held ≤ 4096) where
-  pub stay-length : length (siftedFrom false m 20480 d 0 held) ≤ held
-  stay-length = omega
-      (arith, pick-most (λ w. not (eqb w d)) (slice 20480 (20480 + held) m) (slice 24576 (24576 + held) m), length-slice 20480 (20480 + held) m (omega arith))
+  -- those that watch the token, and the others, are at most all
+  stay-length : length (siftedFrom false m 20480 d 0 held) ≤ held
+  stay-length = omega (arith, stay-count m 20480 d held (omega arith) (omega arith) {cell = 0} (omega arith))
 
   pub watchers-most : {n : ℕ} → n ≡ length (siftedFrom true m 20480 d 0 held) → n ≤ held
   watchers-most n-is = omega (arith, stay-count m 20480 d held (omega arith) (omega arith) {cell = 0} (omega arith))
@@ -224,12 +224,7 @@ module _ (m : List ℕ) (end d held : ℕ) (whole : 32768 ≤ length m) (most : 
         let z : List ℕ = replicate (held - length s) 0 in
         let zeros : length z ≡ held - length s = length-replicate (held - length s) 0 in
         let short : length s ≤ held = stay-length m₁ d held (omega (arith, queued-length)) most in
-        let narrow : length v ≤ held =
-        omega (
-          arith,
-          pick-most (λ w. not (eqb w d)) (slice 24576 (24576 + held) m₁) (slice 24576 (24576 + held) m₁),
-          length-slice 24576 (24576 + held) m₁ (omega (arith, queued-length)),
-        ) in
+        let narrow : length v ≤ held = omega (arith, stay-count m₁ 24576 d held (omega (arith, queued-length)) (omega (arith, queued-length)) {cell = 0} (omega arith)) in
         rw closed
         (drop-sets z (sets (sets (sets m₁ 20480 s) 24576 v) (20480 + length s) z) (24576 + length s) 28672 (omega arith)
         ∙ drop-sets z (sets (sets m₁ 20480 s) 24576 v) (20480 + length s) 28672 (omega arith)

@@ -9,7 +9,7 @@ use lib.Seq.{sets, take-set-le}
 use Rattle.tables.specs.Releasing.{siftedFrom, Unwatched}
 use Rattle.tables.proofs.memory.Cells.{cell-below, sets-store, sets-none}
 use Rattle.tables.proofs.code.ScanLaws.{Next, next-same}
-use Rattle.tables.proofs.code.SiftLaws.{watchers-skip, first-skip, watcher-next, next-inside}
+use Rattle.tables.proofs.code.SiftLaws.{first-skip, watcher-found, next-inside}
 
 -- the tokens that watch a number are stored behind the ready queue, up to `to`: the tables and the watches are as at first
 pub record Queueing (m₀ : List ℕ) (d held from to : ℕ) (m : List ℕ) (cell at : ℕ) : Type 0 where
@@ -53,9 +53,7 @@ module _ {m₀ : List ℕ} {d held from to : ℕ} {m : List ℕ} {cell at : ℕ}
     queue-inside = next-inside m₀ 20480 d held (omega (arith, inv .most, inv .whole)) (omega (arith, inv .most, inv .whole)) next₀ (omega (arith, inv .ends))
 
     next-one : siftedFrom true m₀ 20480 d cell held ≡ getD m₀ (20480 + r) 0 ∷ siftedFrom true m₀ 20480 d (r + 1) held
-    next-one =
-        watchers-skip m₀ 20480 d held (omega (arith, inv .most, inv .whole)) (omega (arith, inv .most, inv .whole)) next₀
-        ∙ watcher-next m₀ 20480 d held (omega (arith, inv .most, inv .whole)) (omega (arith, inv .most, inv .whole)) queue-inside (next₀ .hit queue-inside)
+    next-one = watcher-found m₀ 20480 d held (omega (arith, inv .most, inv .whole)) (omega (arith, inv .most, inv .whole)) next₀ queue-inside
 
     pub queue-one : Queueing m₀ d held from to (set m at (getD m (20480 + r) 0)) (r + 1) (at + 1)
     queue-one =

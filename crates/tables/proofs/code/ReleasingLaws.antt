@@ -4,10 +4,10 @@ use mathlib.Core.Bool.{Bool, true, false}
 use mathlib.Core.List.{List, [], _∷_}
 use Prim.Native.Nat.{ℕ, suc, _+_, _<_, _≤_}
 use native.Mathlib.Omega.{arith}
-use native.Mathlib.Nat.{add-zero}
+use native.Mathlib.Nat.{add-zero, zero-add}
 use lib.ListN.{length, getD, take}
 use borrow.Author.Tests.{le-leb, lt-leb}
-use Rattle.rules.specs.Lists.{if, keep, any}
+use Rattle.rules.specs.Lists.{if, mustNot, keep, any}
 use Rattle.rules.specs.Sources.{Released as Outcome, Broken, Passed}
 use Rattle.tables.specs.declared.Tables.{Tables}
 use Rattle.tables.specs.declared.Released.{Released}
@@ -15,16 +15,26 @@ use Rattle.tables.specs.declared.Hold.{Hold}
 use Rattle.tables.specs.declared.Tally.{Tally}
 use Rattle.tables.specs.Facts.{leftHold}
 use Rattle.tables.specs.State.{State, tableOf, watchesOf}
-use Rattle.tables.specs.Releasing.{isFree, isHeld, siftedFrom, tallyOf, watchersIn, wokenIn, unsoundIn, movedTables, movedMemory, releaseOf, releasedOf}
+use Rattle.tables.specs.Releasing.{isFree, isHeld, isUnsound, siftedFrom, tallyOf, watchersIn, wokenIn, unsoundIn, movedTables, movedMemory, releaseOf, releasedOf}
 use Rattle.tables.specs.Releasing.{releasedMemory}
 use Rattle.tables.proofs.memory.PickLaws.{still-watching}
 use Rattle.tables.proofs.memory.FactsLaws.{left-by}
 use Rattle.tables.proofs.code.SiftLaws.{sifted-end, watcher-next}
 
+-- a tally with some tokens counted already
+abbrev pub tallyFrom : (ℕ → Hold) → ℕ → ℕ → List ℕ → Tally
+tallyFrom hold n k ts =
+    mustNot (any (λ t. isUnsound (hold t)) ts) Tally.Unsound
+    (Tally.Known (n + length (keep (λ t. isFree (hold t)) ts)) (k + length (keep (λ t. isHeld (hold t)) ts)))
+
+pub tally-first : (hold : ℕ → Hold) (ts : List ℕ) → tallyOf hold ts ≡ tallyFrom hold 0 0 ts
+unfolding tallyOf
+tally-first hold ts = rw (zero-add (length (keep (λ t. isFree (hold t)) ts)), zero-add (length (keep (λ t. isHeld (hold t)) ts)))
+
 -- the tally of the tokens that watch a number, with the cells from one on left
-module _ {whole : Tally} (hold : ℕ → Hold) (d n k : ℕ) (m : List ℕ) (cell held : ℕ) (left : whole ≡ tallyOf hold n k (siftedFrom true m 20480 d cell held)) where
+module _ {whole : Tally} (hold : ℕ → Hold) (d n k : ℕ) (m : List ℕ) (cell held : ℕ) (left : whole ≡ tallyFrom hold n k (siftedFrom true m 20480 d cell held)) where
   pub tally-end : cell ≤ held → held ≤ cell → Tally.Known n k ≡ whole
-  unfolding tallyOf any keep
+  unfolding any keep
   tally-end l h = sym (rw (sifted-end true m 20480 d cell held l h, add-zero n, add-zero k) at left)
 
   module _ (h : cell < held) (few : held ≤ 4096) (long : 32768 ≤ length m) (hit : getD m (24576 + cell) 0 ≡ d) {r : Hold} (r-is : r ≡ hold (getD m (20480 + cell) 0)) where
@@ -32,24 +42,24 @@ module _ {whole : Tally} (hold : ℕ → Hold) (d n k : ℕ) (m : List ℕ) (cel
     next-one = watcher-next m 20480 d held (omega arith) (omega arith) h hit
 
     pub tally-bad : r ≡ Hold.Unsound → Tally.Unsound ≡ whole
-    unfolding tallyOf any keep
+    unfolding any keep
     tally-bad e = sym (rw (next-one, ← r-is, e) at left)
 
-    pub tally-free : r ≡ Hold.Free → whole ≡ tallyOf hold (n + 1) k (siftedFrom true m 20480 d (cell + 1) held)
-    unfolding tallyOf any keep
+    pub tally-free : r ≡ Hold.Free → whole ≡ tallyFrom hold (n + 1) k (siftedFrom true m 20480 d (cell + 1) held)
+    unfolding any keep
     tally-free e =
         let free : ℕ = length (keep (λ t. isFree (hold t)) (siftedFrom true m 20480 d (cell + 1) held)) in
         let moved : n + suc free ≡ n + 1 + free = omega arith in
         rw (next-one, ← r-is, e, moved) at left
 
-    pub tally-by : {v : ℕ} → r ≡ Hold.By v → whole ≡ tallyOf hold n (k + 1) (siftedFrom true m 20480 d (cell + 1) held)
-    unfolding tallyOf any keep
+    pub tally-by : {v : ℕ} → r ≡ Hold.By v → whole ≡ tallyFrom hold n (k + 1) (siftedFrom true m 20480 d (cell + 1) held)
+    unfolding any keep
     tally-by e =
         let kept : ℕ = length (keep (λ t. isHeld (hold t)) (siftedFrom true m 20480 d (cell + 1) held)) in
         let moved : k + suc kept ≡ k + 1 + kept = omega arith in
         rw (next-one, ← r-is, e, moved) at left
 
-pub tally-nobody : (hold : ℕ → Hold) {l : List ℕ} → l ≡ [] → tallyOf hold 0 0 l ≡ Tally.Known 0 0
+pub tally-nobody : (hold : ℕ → Hold) {l : List ℕ} → l ≡ [] → tallyOf hold l ≡ Tally.Known 0 0
 unfolding tallyOf any keep
 tally-nobody hold e = rw e
 
@@ -64,11 +74,11 @@ module _ (t : Tables) (d : ℕ) (m : List ℕ) where
   release-beyond h = rw (le-leb (t .tokens) d h) (refl, refl)
 
   -- the tally says whether a record is bad, how many wake, and how many another number holds
-  tally-cases : (b : Bool) (i j : ℕ) {n k : ℕ} → if b Tally.Unsound (Tally.Known (0 + i) (0 + j)) ≡ Tally.Known n k → (b ≡ false) × ((n ≡ i) × (k ≡ j))
+  tally-cases : (b : Bool) (i j : ℕ) {n k : ℕ} → if b Tally.Unsound (Tally.Known i j) ≡ Tally.Known n k → (b ≡ false) × ((n ≡ i) × (k ≡ j))
   tally-cases true i j e = let z : _≡_ {A = ℕ} 0 1 = cc in absurd (omega arith)
-  tally-cases false i j {n} {k} e = let h : 0 + i ≡ n = cc in let h′ : 0 + j ≡ k = cc in (refl, (omega arith, omega arith))
+  tally-cases false i j {n} {k} e = let h : i ≡ n = cc in let h′ : j ≡ k = cc in (refl, (sym h, sym h′))
 
-  tally-unsound : (b : Bool) (i j : ℕ) → if b Tally.Unsound (Tally.Known (0 + i) (0 + j)) ≡ Tally.Unsound → b ≡ true
+  tally-unsound : (b : Bool) (i j : ℕ) → if b Tally.Unsound (Tally.Known i j) ≡ Tally.Unsound → b ≡ true
   tally-unsound true i j e = refl
   tally-unsound false i j e = let z : _≡_ {A = ℕ} 0 1 = cc in absurd (omega arith)
 
@@ -78,7 +88,7 @@ module _ (t : Tables) (d : ℕ) (m : List ℕ) where
       ap length
       (still-watching (leftHold (take 20480 m) (t .tokens) d) d (λ n v e. left-by (take 20480 m) (t .tokens) d n v e) (tableOf t m) (watchesOf t m) sound)
 
-  module _ (inside : d < t .tokens) {x : Tally} (x-is : x ≡ tallyOf (leftHold (take 20480 m) (t .tokens) d) 0 0 (siftedFrom true m 20480 d 0 (t .held))) where
+  module _ (inside : d < t .tokens) {x : Tally} (x-is : x ≡ tallyOf (leftHold (take 20480 m) (t .tokens) d) (siftedFrom true m 20480 d 0 (t .held))) where
     pub release-bad : x ≡ Tally.Unsound → Gives m (releaseOf t d m) Released.Broken m
     unfolding releaseOf releasedOf releasedMemory tallyOf
     release-bad e =

@@ -17,7 +17,7 @@ use Rattle.tables.proofs.memory.Cells.{take-less, drop-more, cell-below
 use Rattle.tables.proofs.memory.MemoryLaws.{slice-same}
 use Rattle.tables.proofs.memory.PickLaws.{new-unheld}
 use Rattle.tables.proofs.code.ScanLaws.{Next, next-same}
-use Rattle.tables.proofs.code.SiftLaws.{watchers-skip, watcher-next, next-inside, first-skip}
+use Rattle.tables.proofs.code.SiftLaws.{watcher-found, next-inside, first-skip}
 
 -- the watches before a cell are renewed: the facts, the table and the watches from there on are as at first
 pub record Renewed (m₀ : List ℕ) (tokens d held : ℕ) (m : List ℕ) (cell : ℕ) : Type 0 where
@@ -159,9 +159,6 @@ module _ {m₀ : List ℕ} {tokens d held : ℕ} {m : List ℕ} {cell n : ℕ} (
     next₀ : Next m₀ d cell held r
     next₀ = next-same (λ i l h. cell-from m₀ m (24576 + cell) (24576 + i) (inv .done .ahead) (omega arith)) next
 
-    skipped : siftedFrom true m₀ 20480 d cell held ≡ siftedFrom true m₀ 20480 d r held
-    skipped = watchers-skip m₀ 20480 d held room room′ next₀
-
     pub renew-inside : r < held
     renew-inside =
         next-inside m₀ 20480 d held room room′ next₀
@@ -175,7 +172,7 @@ module _ {m₀ : List ℕ} {tokens d held : ℕ} {m : List ℕ} {cell n : ℕ} (
       hold₀ = hold-is passed renew-inside (next .hit renew-inside) h-is
 
       next-one : siftedFrom true m₀ 20480 d cell held ≡ getD m₀ (20480 + r) 0 ∷ siftedFrom true m₀ 20480 d (r + 1) held
-      next-one = skipped ∙ watcher-next m₀ 20480 d held room room′ renew-inside (next₀ .hit renew-inside)
+      next-one = watcher-found m₀ 20480 d held room room′ next₀ renew-inside
 
       count-held : isHeld h ≡ true → n ≡ suc (keptFrom m₀ tokens d (r + 1) held)
       unfolding keep

@@ -37,7 +37,7 @@ module _ (m : List ℕ) (base d held : ℕ) (long : base + held ≤ length m) (l
     pub watcher-next : siftedFrom true m base d cell held ≡ getD m (base + cell) 0 ∷ siftedFrom true m base d (cell + 1) held
     watcher-next = sifted-yes true m base d cell held h long long′ refl (eq-eqb (getD m (24576 + cell) 0) d hit)
 
-    pub watcher-out : siftedFrom false m base d cell held ≡ siftedFrom false m base d (cell + 1) held
+    watcher-out : siftedFrom false m base d cell held ≡ siftedFrom false m base d (cell + 1) held
     watcher-out = sifted-no false m base d cell held h long long′ refl (ap not (eq-eqb (getD m (24576 + cell) 0) d hit))
 
   -- cells that do not: they are passed, and of the others they are the first
@@ -68,7 +68,7 @@ module _ (m : List ℕ) (base d held : ℕ) (long : base + held ≤ length m) (l
         let r-is : cell + (r - cell) ≡ r = omega (arith, n .from) in
         rw r-is at (skip (r - cell) cell (omega (arith, n .upto)) (λ i a b. n .none i a (omega arith)))
 
-    pub others-stay : siftedFrom false m base d cell held ≡ slice (base + cell) (base + r) m ++ siftedFrom false m base d r held
+    others-stay : siftedFrom false m base d cell held ≡ slice (base + cell) (base + r) m ++ siftedFrom false m base d r held
     others-stay =
         let r-is : cell + (r - cell) ≡ r = omega (arith, n .from) in
         rw r-is at (stay (r - cell) cell (omega (arith, n .upto)) (λ i a b. n .none i a (omega arith)))
@@ -79,6 +79,14 @@ module _ (m : List ℕ) (base d held : ℕ) (long : base + held ≤ length m) (l
         (λ inside. inside)
         (λ outside. let none : siftedFrom true m base d r held ≡ [] = sifted-end true m base d r held (n .upto) (omega arith) in
         absurd (omega (arith, ap length watchers-skip, ap length none)))
+
+    -- and then it comes first
+    module _ (inside : r < held) where
+      pub watcher-found : siftedFrom true m base d cell held ≡ getD m (base + r) 0 ∷ siftedFrom true m base d (r + 1) held
+      watcher-found = watchers-skip ∙ watcher-next inside (n .hit inside)
+
+      pub watcher-left-out : siftedFrom false m base d cell held ≡ slice (base + cell) (base + r) m ++ siftedFrom false m base d (r + 1) held
+      watcher-left-out = others-stay ∙ ap (λ (l : List ℕ). slice (base + cell) (base + r) m ++ l) (watcher-out inside (n .hit inside))
 
   -- up to the first
   module _ {first : ℕ} (h : first ≤ held) (none : Unwatched m d first) where

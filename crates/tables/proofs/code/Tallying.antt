@@ -11,13 +11,13 @@ use Rattle.tables.specs.Facts.{leftHold}
 use Rattle.tables.specs.Releasing.{siftedFrom, tallyOf, Unwatched}
 use Rattle.tables.proofs.code.ScanLaws.{Next}
 use Rattle.tables.proofs.code.SiftLaws.{watchers-skip, first-skip}
-use Rattle.tables.proofs.code.ReleasingLaws.{tally-end, tally-bad, tally-free, tally-by}
+use Rattle.tables.proofs.code.ReleasingLaws.{tallyFrom, tally-first, tally-end, tally-bad, tally-free, tally-by}
 
 -- the tokens of the cells before one are counted: n of them wake, and another number holds k
 pub record Tallying (m : List ℕ) (tokens d held n k cell : ℕ) : Type 0 where
   pub upto : cell ≤ held
   pub few : n + k ≤ cell
-  pub left : tallyOf (leftHold (take 20480 m) tokens d) 0 0 (siftedFrom true m 20480 d 0 held) ≡ tallyOf (leftHold (take 20480 m) tokens d) n k (siftedFrom true m 20480 d cell held)
+  pub left : tallyOf (leftHold (take 20480 m) tokens d) (siftedFrom true m 20480 d 0 held) ≡ tallyFrom (leftHold (take 20480 m) tokens d) n k (siftedFrom true m 20480 d cell held)
 
 module _ {m : List ℕ} {held : ℕ} (whole : 32768 ≤ length m) (most : held ≤ 4096) where
   pub tally-start : (tokens : ℕ) {d first : ℕ} → first ≤ held → Unwatched m d first → Tallying m tokens d held 0 0 first
@@ -25,11 +25,12 @@ module _ {m : List ℕ} {held : ℕ} (whole : 32768 ≤ length m) (most : held �
       record {
         upto = h;
         few = omega arith;
-        left = ap (tallyOf (leftHold (take 20480 m) tokens d) 0 0) (first-skip m 20480 d held (omega arith) (omega arith) h none);
+        left = tally-first (leftHold (take 20480 m) tokens d) (siftedFrom true m 20480 d 0 held)
+            ∙ ap (tallyFrom (leftHold (take 20480 m) tokens d) 0 0) (first-skip m 20480 d held (omega arith) (omega arith) h none);
       }
 
   module _ {tokens d n k cell : ℕ} (inv : Tallying m tokens d held n k cell) where
-    pub tally-done : held ≤ cell → Tally.Known n k ≡ tallyOf (leftHold (take 20480 m) tokens d) 0 0 (siftedFrom true m 20480 d 0 held)
+    pub tally-done : held ≤ cell → Tally.Known n k ≡ tallyOf (leftHold (take 20480 m) tokens d) (siftedFrom true m 20480 d 0 held)
     tally-done h = tally-end (leftHold (take 20480 m) tokens d) d n k m cell held (inv .left) (inv .upto) h
 
     -- cells that do not watch the number are passed
@@ -38,12 +39,12 @@ module _ {m : List ℕ} {held : ℕ} (whole : 32768 ≤ length m) (most : held �
         record {
           upto = next .upto;
           few = omega (arith, inv .few, next .from);
-          left = inv .left ∙ ap (tallyOf (leftHold (take 20480 m) tokens d) n k) (watchers-skip m 20480 d held (omega arith) (omega arith) next);
+          left = inv .left ∙ ap (tallyFrom (leftHold (take 20480 m) tokens d) n k) (watchers-skip m 20480 d held (omega arith) (omega arith) next);
         }
 
     -- one that does: by what still holds its token
     module _ (more : cell < held) (hit : getD m (24576 + cell) 0 ≡ d) {r : Hold} (r-is : r ≡ leftHold (take 20480 m) tokens d (getD m (20480 + cell) 0)) where
-      pub tally-unsound : r ≡ Hold.Unsound → Tally.Unsound ≡ tallyOf (leftHold (take 20480 m) tokens d) 0 0 (siftedFrom true m 20480 d 0 held)
+      pub tally-unsound : r ≡ Hold.Unsound → Tally.Unsound ≡ tallyOf (leftHold (take 20480 m) tokens d) (siftedFrom true m 20480 d 0 held)
       tally-unsound e = tally-bad (leftHold (take 20480 m) tokens d) d n k m cell held (inv .left) more most whole hit r-is e
 
       pub tally-woken : r ≡ Hold.Free → Tallying m tokens d held (n + 1) k (cell + 1)

@@ -2,7 +2,7 @@
 use mathlib.Core.Path.{_≡_, refl, sym, ap, _∙_}
 use mathlib.Core.Bool.{Bool, true, false, not, true≢false}
 use mathlib.Core.List.{List, [], _∷_}
-use Prim.Native.Nat.{ℕ, zero, suc, _+_, _<_, _≤_}
+use Prim.Native.Nat.{ℕ, zero, suc, _+_, _<_}
 use native.Mathlib.Omega.{arith}
 use lib.Dec.{eqb}
 use borrow.Author.Tests.{ne-eqb}
@@ -14,13 +14,7 @@ use Rattle.tables.specs.Facts.{byHold}
 use Rattle.tables.specs.Releasing.{isFree, isHeld, isUnsound, pick, newWatch, newWatches}
 
 module _ (p : ℕ → Bool) where
-  -- at most all are picked, and what is picked from numbers below a bound is below it
-  pub pick-most : (xs ws : List ℕ) → length (pick p xs ws) ≤ length xs
-  unfolding pick
-  pick-most [] ws = omega arith
-  pick-most (x ∷ xs) [] = omega arith
-  pick-most (x ∷ xs) (w ∷ ws) = by-test (p w) (λ e. rw e (omega (arith, pick-most xs ws))) (λ e. rw e (omega (arith, pick-most xs ws)))
-
+  -- what is picked from numbers below a bound is below it
   pub below-pick : (n : ℕ) (xs ws : List ℕ) → Below n xs → Below n (pick p xs ws)
   unfolding pick
   below-pick n [] ws b = tt
