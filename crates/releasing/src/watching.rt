@@ -2,23 +2,15 @@
 // all of the block and with no way out: this becomes vector code. Only in a block that has the number single cells are looked at.
 use tables::WATCHES;
 ghost use mathlib.Core.Path.{_≡_};
-ghost use mathlib.Core.Bool.{true};
 ghost use Prim.Native.Nat.{_+_, _≤_};
 ghost use lib.ListN.{length};
 ghost use lib.Seq.{slice};
-ghost use Rattle.rules.specs.Lists.{if, has};
+ghost use Rattle.rules.specs.Lists.{has};
 ghost use Rattle.tables.specs.Layout.{lent, mostTokens};
 ghost use Rattle.tables.specs.Releasing.{nextFrom};
 
 // How many cells are compared together.
 const BLOCK: usize = 64;
-
-// One of two tests holds, or both, with no branch.
-fn either(a: bool, b: bool) -> bool
-    ensures { λ r. ⌜ r ≡ if a true b ⌝ }
-{
-    a | b
-}
 
 // Whether a number is in the block of cells from `at` on.
 fn in_block(mem: &[u16], at: usize, number: u16) -> bool
@@ -28,7 +20,7 @@ fn in_block(mem: &[u16], at: usize, number: u16) -> bool
     let mut found = false;
     let mut i: usize = 0;
     while i < BLOCK {
-        found = either(mem[at + i] == number, found);
+        found = found | (mem[at + i] == number);
         i += 1;
     }
     found

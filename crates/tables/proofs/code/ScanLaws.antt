@@ -1,7 +1,7 @@
 -- The scan for the next cell that watches a number: a block at a time, then one cell after the other.
 use mathlib.Core.Path.{_≡_, refl, sym, ap, subst, _∙_}
 use mathlib.Core.Logic.{by-cases}
-use mathlib.Core.Bool.{Bool, true, false, true≢false}
+use mathlib.Core.Bool.{Bool, true, false, _||_, true≢false}
 use mathlib.Core.List.{List, [], _∷_}
 use Prim.Native.Nat.{ℕ, zero, suc, _+_, _-_, _<_, _≤_}
 use native.Mathlib.Omega.{arith}
@@ -27,16 +27,14 @@ module _ (m : List ℕ) (at d : ℕ) where
     unfolding has
     block-end l h = sym (left ∙ rw (row-end m at i 64 l h) (if-eta found))
 
-    pub block-next : {r : Bool} → i < 64 → at + 64 ≤ length m → r ≡ if (eqb (getD m (at + i) 0) d) true found
-        → has (slice at (at + 64) m) d ≡ if r true (has (slice (at + (i + 1)) (at + 64) m) d)
+    pub block-next : i < 64 → at + 64 ≤ length m
+        → has (slice at (at + 64) m) d ≡ if (found || eqb (getD m (at + i) 0) d) true (has (slice (at + (i + 1)) (at + 64) m) d)
     unfolding has
-    block-next h l r-is = left ∙ rw (row-next m at i 64 h l, r-is) (swapped (eqb (getD m (at + i) 0) d) found _)
+    block-next h l = left ∙ rw (row-next m at i 64 h l) (either found (eqb (getD m (at + i) 0) d) _)
       where
-        swapped : (e f x : Bool) → if f true (if e true x) ≡ if (if e true f) true x
-        swapped true true x = refl
-        swapped true false x = refl
-        swapped false true x = refl
-        swapped false false x = refl
+        either : (f e x : Bool) → if f true (if e true x) ≡ if (f || e) true x
+        either true e x = refl
+        either false e x = refl
 
 -- a list without a number has it nowhere
 absent : (l : List ℕ) (d k : ℕ) → has l d ≡ false → k < length l → getD l k 0 ≡ d → ⊥

@@ -18,19 +18,16 @@ abbrev μ-loop : tie.MeasureT-loop
 μ-loop mem at number found₀ i₀ found i = 64 - i
 
 loop-holds : tie.Need-loop-holds Inv-loop μ-loop
-loop-holds c = let start = c .before in (search needs, block-start (start .args .mem .now) (start .args .at) (start .args .number))
+loop-holds c = (search needs, block-start (c .args .mem .now) (c .args .at) (c .args .number))
 
-add-either : tie.Need-add-either Inv-loop μ-loop
-add-either c = search needs
+add-found : tie.Need-add-found Inv-loop μ-loop
+add-found c = search needs
 
-mul-either : tie.Need-mul-either Inv-loop μ-loop
-mul-either c = search needs
+mul-found : tie.Need-mul-found Inv-loop μ-loop
+mul-found c = search needs
 
-shared-slice-read-either : tie.Need-shared-slice-read-either Inv-loop μ-loop
-shared-slice-read-either c = search needs
-
-either-requires : tie.Need-either-requires Inv-loop μ-loop
-either-requires c κs = search needs
+shared-slice-read-found : tie.Need-shared-slice-read-found Inv-loop μ-loop
+shared-slice-read-found c = search needs
 
 add-i : tie.Need-add-i Inv-loop μ-loop
 add-i c = search needs
@@ -40,18 +37,18 @@ loop-less c = search needs
 
 loop-again : tie.Need-loop-again Inv-loop μ-loop
 loop-again c =
-    let at-loop-test = c .before .before in
+    let at-loop-test = c .before in
     let at-loop = at-loop-test .before in
-    let start = at-loop .before .before in (
+    let start = at-loop .before in (
       search needs,
       block-next (start .args .mem .now) (start .args .at) (start .args .number) (at-loop .loop .found) (at-loop .loop .i) (at-loop .loop .inv .1) (at-loop-test .loop-test .taken)
-          (omega (arith, start .pre .0, start .pre .1)) (c .either .ensures),
+          (omega (arith, start .pre .0, start .pre .1)),
     )
 
 returns : tie.Need-returns Inv-loop μ-loop
 returns c =
     let at-loop = c .before in
-    let start = at-loop .before .before in
+    let start = at-loop .before in
     block-end (start .args .mem .now) (start .args .at) (start .args .number) (at-loop .loop .found) (at-loop .loop .i) (at-loop .loop .inv .1) (at-loop .loop .inv .0) (c .loop-test .left)
 
 pub in-block-spec : {M : Type 1} → statement M
@@ -61,10 +58,9 @@ in-block-spec =
     Inv-loop
     μ-loop
     loop-holds
-    add-either
-    mul-either
-    shared-slice-read-either
-    either-requires
+    add-found
+    mul-found
+    shared-slice-read-found
     add-i
     loop-less
     loop-again
