@@ -3,7 +3,7 @@ use mathlib.Core.Path.{_≡_, sym, ap, _∙_}
 use mathlib.Core.List.{List}
 use Prim.Native.Nat.{ℕ}
 use Rattle.rules.specs.Choices.{Refused}
-use Rattle.rules.proofs.choices.Unchanged as rules
+use Rattle.rules.proofs.choices.Outcomes as rules
 use Rattle.tables.specs.Calls.{memorySource}
 use Rattle.state.specs.declared.State.{State}
 use Rattle.engine.specs.declared.Chosen.{Chosen}
@@ -40,4 +40,4 @@ pub refused-unchanged : (s : State) (m : List ℕ) (w l : ℕ) (r : Chosen) (m�
 unfolding chosenOf
 refused-unchanged s m w l r m′ n called told =
     same-state (r .state) s m′ m
-    (ap (λ c. c .machine) called ∙ rules.refused-unchanged (machineOf s m) memorySource w l n (sym (ap (λ c. c .answer) called) ∙ told))
+    (ap (λ c. c .machine) called ∙ rules.refused-unchanged memorySource (machineOf s m) w l n (sym (ap (λ c. c .answer) called) ∙ told))

@@ -1,6 +1,8 @@
 -- One choice, and a list of them. Reading order:
--- a refused choice changes nothing;
-pub mod Unchanged
+-- what a choice does in any machine: refused, it changes nothing;
+pub mod Outcomes
+-- two choices in either order, in any machine;
+pub mod Swapping
 -- each kind of move keeps the invariant;
 pub mod Moves
 -- every choice is refused, not with 14, or makes a move;

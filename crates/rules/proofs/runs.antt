@@ -18,5 +18,11 @@ pub mod LinesAlone
 pub mod OneLineEach
 -- so lines listed alone answer as in document 01;
 pub mod LineAnswers
--- the theorem: all of `WholeRun`.
+-- the theorem: all of `WholeRun`;
 pub mod WholeRuns
+-- the accepted choices by themselves;
+pub mod AcceptedAlone
+-- the same choices under a larger limit;
+pub mod MoreWorkers
+-- and two choices in either order.
+pub mod Swapping

@@ -14,5 +14,8 @@ pub mod Workers
 pub mod PlainSheet
 pub mod Chains
 pub mod WholeRuns
+-- a list of choices under a larger limit, and two in either order (2.12);
+pub mod MoreWorkers
+pub mod Swapping
 -- and what it is for one source of tokens to do as another.
 pub mod RelatedSources

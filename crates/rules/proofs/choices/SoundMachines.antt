@@ -1,14 +1,15 @@
 -- What a machine is like whose numbers are all within their ranges.
 use mathlib.Core.Path.{_≡_}
-use mathlib.Core.Bool.{true}
+use mathlib.Core.Bool.{true, not}
 use Prim.Native.Nat.{ℕ, _≤_, _<_}
 use native.Mathlib.Omega.{arith}
-use borrow.Author.Tests.{ltb-true, leb-true}
-use lib.Dec.{leb}
-use Rattle.rules.specs.Lists.{every, within}
+use borrow.Author.Tests.{ltb-true, leb-true, eqb-true}
+use lib.Dec.{leb, ltb, eqb}
+use Rattle.rules.specs.Lists.{if, every, within}
 use Rattle.rules.specs.RunState.{Machine, slotOf}
 use Rattle.rules.specs.Sources.{Source}
-use Rattle.rules.specs.Ranges.{workerSound, slotSound, serialSound, numbersSound, sound}
+use Rattle.rules.specs.Ranges.{workerSound, isIdle, isLoaded, slotSound, serialSound, numbersSound, sound}
+use Rattle.rules.proofs.lists.Tests.{holds, fails, see}
 use Rattle.rules.proofs.lists.Holding.{first-holds, rest-hold, every-at}
 
 -- a number within a range
@@ -27,11 +28,13 @@ module _ {X : Type 0} (S : Source X) (m : Machine X) (ok : sound S m ≡ true) w
   numbers-ok = first-holds (numbersSound m) _ ok
 
   -- the slot of each line
-  pub slot-ok : (l : ℕ) → l < 32 → slotSound (m .pipes) (m .lines) (m .tokens) (m .workers) (m .slots) l ≡ true
+  pub slots-ok : every 32 (slotSound (m .pipes) (m .lines) (m .tokens) (m .workers) (m .slots)) ≡ true
   unfolding sound
-  slot-ok l h = every-at 32 l _ h
-      (first-holds (every 32 (slotSound (m .pipes) (m .lines) (m .tokens) (m .workers) (m .slots))) _
-      (rest-hold (every 16 (serialSound (m .pipes) (m .serial))) _ (rest-hold (numbersSound m) _ ok)))
+  slots-ok = first-holds (every 32 (slotSound (m .pipes) (m .lines) (m .tokens) (m .workers) (m .slots))) _
+      (rest-hold (every 16 (serialSound (m .pipes) (m .serial))) _ (rest-hold (numbersSound m) _ ok))
+
+  pub slot-ok : (l : ℕ) → l < 32 → slotSound (m .pipes) (m .lines) (m .tokens) (m .workers) (m .slots) l ≡ true
+  slot-ok l h = every-at 32 l _ h slots-ok
 
   pipes-ok : within 1 16 (m .pipes) ≡ true
   unfolding numbersSound
@@ -41,7 +44,7 @@ module _ {X : Type 0} (S : Source X) (m : Machine X) (ok : sound S m ≡ true) w
   unfolding numbersSound
   lines-ok = first-holds (within 1 32 (m .lines)) _ (rest-hold (within 1 16 (m .pipes)) _ numbers-ok)
 
-  workers-ok : within 1 32 (m .workers) ≡ true
+  pub workers-ok : within 1 32 (m .workers) ≡ true
   unfolding numbersSound
   workers-ok = first-holds (within 1 32 (m .workers)) _
       (rest-hold (leb (m .tokens) 4096) _ (rest-hold (within 1 32 (m .lines)) _ (rest-hold (within 1 16 (m .pipes)) _ numbers-ok)))
@@ -63,3 +66,15 @@ module _ {X : Type 0} (S : Source X) (m : Machine X) (ok : sound S m ≡ true) w
   unfolding slotSound workerSound
   manned l h r = ltb-true (slotOf m l .worker .0) (m .workers)
       (rw r at (first-holds (workerSound (m .workers) (slotOf m l)) _ (slot-ok l (omega (arith, lines-most)))))
+
+  -- the pipe of each line is one of the plan's
+  pub pipe-in : (l : ℕ) → l < m .lines → slotOf m l .pipe .0 < m .pipes
+  unfolding slotSound isIdle isLoaded
+  pipe-in l h =
+      let ok-here = rest-hold (workerSound (m .workers) (slotOf m l)) _ (slot-ok l (omega (arith, lines-most))) in
+      elim (see (isIdle (slotOf m l))) [
+        | holds i ↦ omega (arith, pipes-some, eqb-true (slotOf m l .pipe .0) 0 (first-holds (eqb (slotOf m l .pipe .0) 0) _ (rest-hold (not (slotOf m l .running)) _ i)))
+        | fails i ↦ ltb-true (slotOf m l .pipe .0) (m .pipes) (first-holds (ltb (slotOf m l .pipe .0) (m .pipes)) _
+            (rest-hold (if (slotOf m l .running) true (ltb 0 (slotOf m l .pipe .0))) _
+            (first-holds (isLoaded (m .pipes) (m .tokens) (slotOf m l)) _ (rest-hold (ltb l (m .lines)) _ (rw i at ok-here)))))
+      ]

@@ -28,7 +28,7 @@ unfolding every
 every-holds zero f h = refl
 every-holds (suc n) f h = both (h n (omega arith)) (every-holds n f (λ i k. h i (omega arith)))
 
-within-range : (low high n : ℕ) → low ≤ n → n ≤ high → within low high n ≡ true
+pub within-range : (low high n : ℕ) → low ≤ n → n ≤ high → within low high n ≡ true
 unfolding within
 within-range low high n h k = rw (le-leb low n h, le-leb n high k)
 

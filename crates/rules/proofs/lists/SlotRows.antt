@@ -3,7 +3,7 @@ use mathlib.Core.Path.{_≡_, ap, sym, _∙_}
 use Prim.Native.Nat.{ℕ, _<_}
 use native.Mathlib.Omega.{arith}
 use lib.ListN.{length, getD, replicate, length-set, length-replicate, getD-replicate, List·getD-eq-default}
-use lib.Seq.{getD-set-same, getD-set-other, set-getD, ext-getD}
+use lib.Seq.{getD-set-same, getD-set-other, set-getD, set-comm, ext-getD}
 use Rattle.vocabulary.specs.declared.Slot.{Slot}
 use Rattle.vocabulary.specs.declared.Slots.{Slots}
 use Rattle.rules.specs.RunState.{idle, slotAt, putSlot, allIdle}
@@ -63,6 +63,16 @@ put-own s l = slots-by
     (set-getD (s .token) l (idle .token))
     (set-getD (s .place) l (idle .place))
     (set-getD (s .worker) l (idle .worker))
+
+-- two lines' slots, put in either order
+pub put-swap : (s : Slots) (a b : ℕ) (u v : Slot) → (a ≡ b → ⊥) → putSlot (putSlot s a u) b v ≡ putSlot (putSlot s b v) a u
+unfolding putSlot
+put-swap s a b u v n = slots-by
+    (set-comm (s .at) a b (u .pipe) (v .pipe) n)
+    (set-comm (s .running) a b (u .running) (v .running) n)
+    (set-comm (s .token) a b (u .token) (v .token) n)
+    (set-comm (s .place) a b (u .place) (v .place) n)
+    (set-comm (s .worker) a b (u .worker) (v .worker) n)
 
 -- a row of one value has it everywhere
 one-value : {A : Type 0} (n : ℕ) (a : A) (i : ℕ) → getD (replicate n a) i a ≡ a

@@ -1,0 +1,187 @@
+-- Two choices on different lines, not both at pipe 0, accepted in both orders, do the same in either: in any machine.
+use mathlib.Core.Path.{_≡_, refl, sym, ap, subst, _∙_}
+use mathlib.Core.Bool.{Bool, true, false}
+use mathlib.Core.List.{List, [], _∷_}
+use Prim.Native.Nat.{ℕ, _≤_, _<_}
+use native.Mathlib.Omega.{arith}
+use lib.Dec.{eqb}
+use lib.ListN.{getD, set}
+use lib.Seq.{getD-set-other, set-comm}
+use borrow.Author.Tests.{ne-eqb}
+use Rattle.vocabulary.specs.declared.Slot.{Slot}
+use Rattle.vocabulary.specs.declared.Slots.{Slots}
+use Rattle.rules.specs.Lists.{Every}
+use Rattle.rules.specs.Sources.{Source}
+use Rattle.rules.specs.RunState.{Machine, putSlot, slotOf, counterAt, isSerial}
+use Rattle.rules.specs.Ranges.{sound}
+use Rattle.rules.specs.Choices.{Choice, Chosen, withPlace, next, fall, chooseBy, answers, follow}
+use Rattle.rules.specs.WholeRuns.{Accepted}
+use Rattle.rules.specs.Swapping.{Swapped}
+use Rattle.rules.proofs.lists.Tests.{same, other, sameAs, by-test}
+use Rattle.rules.proofs.lists.SlotRows.{put-other, put-swap}
+use Rattle.rules.proofs.standing.Finish.{next-lt}
+use Rattle.rules.proofs.choices.Outcomes.{Effect, effect, fallIf, countersBy, counters-start, counters-finish, Able, did, accepted-choice, unspoiled-sound, accepted-line}
+use Rattle.rules.proofs.choices.SoundMachines.{pipes-most, pipe-in}
+use Rattle.rules.proofs.choices.Outcomes.{entered, starts-effect, finishes-effect}
+
+-- two falls
+fall-swap : (c : List ℕ) (i j : ℕ) → fall (fall c i) j ≡ fall (fall c j) i
+unfolding fall
+fall-swap c i j = elim (sameAs i j) [
+  | same e t ↦ rw e
+  | other n t ↦ rw (getD-set-other c i j _ 0 (λ e. n (sym e)), getD-set-other c j i _ 0 n) (set-comm c i j _ _ n)
+]
+
+fall-if-swap : (a b : Bool) (c : List ℕ) (i j : ℕ) → fallIf b (fallIf a c i) j ≡ fallIf a (fallIf b c j) i
+fall-if-swap true true c i j = fall-swap c i j
+fall-if-swap true false c i j = refl
+fall-if-swap false true c i j = refl
+fall-if-swap false false c i j = refl
+
+-- a fill, and a fall of another counter
+fill-fall : (b : Bool) (c : List ℕ) (i v j : ℕ) → (b ≡ true → i ≡ j → ⊥) → fallIf b (set c i v) j ≡ set (fallIf b c j) i v
+unfolding fall
+fill-fall true c i v j n = rw (getD-set-other c i j v 0 (λ e. n refl (sym e))) (set-comm c i j v _ (n refl))
+fill-fall false c i v j n = refl
+
+module _ {X : Type 0} (m : Machine X) (most : m .pipes ≤ 16) where
+  -- the counters after two lines' choices: two fills;
+  two-fills : (a b : ℕ) → (a ≡ b → ⊥) → (s t : Slot) → s .pipe .0 < m .pipes → t .pipe .0 < m .pipes → s .running ≡ false → t .running ≡ false →
+      (c : List ℕ) → countersBy m b t (countersBy m a s c) ≡ countersBy m a s (countersBy m b t c)
+  two-fills a b apart s t s-in t-in r q c = rw (counters-start m a s r c, counters-start m b t q c, counters-start m b t q _, counters-start m a s r _)
+      (set-comm c (counterAt a (s .pipe .0)) (counterAt b (t .pipe .0)) _ _ (λ e. omega arith))
+
+  -- a fill and falls: the counter that is 0 is none of those that fall;
+  fill-falls : (a b : ℕ) → (a ≡ b → ⊥) → (s t : Slot) → s .pipe .0 < m .pipes → t .pipe .0 < m .pipes → s .running ≡ false → t .running ≡ true →
+      Able m a s → Able m b t → (c : List ℕ) → countersBy m b t (countersBy m a s c) ≡ countersBy m a s (countersBy m b t c)
+  fill-falls a b apart s t s-in t-in r q x y c =
+      let i : ℕ = counterAt a (s .pipe .0) in
+      let n : ℕ = next (m .pipes) (t .pipe .0) in
+      let next-in : n < m .pipes = next-lt (m .pipes) (t .pipe .0) t-in in
+      rw (counters-start m a s r c, counters-finish m b t q (set c i _), counters-finish m b t q c, counters-start m a s r _)
+      (ap (λ d. fall d (counterAt b n)) (fill-fall (isSerial m (t .pipe .0)) c i _ (counterAt (next (m .lines) b) (t .pipe .0))
+      (λ serial e. y .falls q serial (ap (λ k. getD (m .counters) k 0) (sym e) ∙ x .fills r)))
+      ∙ fill-fall true _ i _ (counterAt b n) (λ u e. omega arith))
+
+  -- falls
+  all-falls : (a b : ℕ) (s t : Slot) → s .running ≡ true → t .running ≡ true →
+      (c : List ℕ) → countersBy m b t (countersBy m a s c) ≡ countersBy m a s (countersBy m b t c)
+  all-falls a b s t r q c =
+      let u : Bool = isSerial m (s .pipe .0) in
+      let v : Bool = isSerial m (t .pipe .0) in
+      let i : ℕ = counterAt (next (m .lines) a) (s .pipe .0) in
+      let j : ℕ = counterAt a (next (m .pipes) (s .pipe .0)) in
+      let k : ℕ = counterAt (next (m .lines) b) (t .pipe .0) in
+      let n : ℕ = counterAt b (next (m .pipes) (t .pipe .0)) in
+      rw (counters-finish m a s r c, counters-finish m b t q c, counters-finish m b t q _, counters-finish m a s r _)
+      (ap (λ d. fall d n) (fall-if-swap true v (fallIf u c i) j k)
+      ∙ fall-swap (fallIf v (fallIf u c i) k) j n
+      ∙ ap (λ d. fall (fall d n) j) (fall-if-swap u v c i k)
+      ∙ ap (λ d. fall d j) (fall-if-swap u true (fallIf v c k) i n))
+
+  -- so each two, in either order
+  counters-swap : (a b : ℕ) → (a ≡ b → ⊥) → (s t : Slot) → s .pipe .0 < m .pipes → t .pipe .0 < m .pipes → Able m a s → Able m b t → (c : List ℕ) →
+      countersBy m b t (countersBy m a s c) ≡ countersBy m a s (countersBy m b t c)
+  counters-swap a b apart s t s-in t-in x y c = by-test (s .running)
+      (λ r. by-test (t .running)
+      (λ q. all-falls a b s t r q c)
+      (λ q. sym (fill-falls b a (λ e. apart (sym e)) t s t-in s-in q r y x c)))
+      (λ r. by-test (t .running)
+      (λ q. fill-falls a b apart s t s-in t-in r q x y c)
+      (λ q. two-fills a b apart s t s-in t-in r q c))
+
+module _ {X : Type 0} (S : Source X) (m : Machine X) where
+  -- past pipe 0 a choice leaves the places, the mark and the source as they are, whatever these are
+  past : (w l : ℕ) (s : Slot) → eqb (s .pipe .0) 0 ≡ false → (c : List ℕ) (v : Slots) (k : ℕ) (b : Bool) (x : X) →
+      effect S (withPlace m c v k b x) w l s ≡
+      record { answer = effect S m w l s .answer; slot = effect S m w l s .slot; placed = k; stopped = b; source = x }
+  past w l s e c v k b x = by-test (s .running)
+      (λ r. rw (finishes-effect S (withPlace m c v k b x) w l s r e, finishes-effect S m w l s r e))
+      (λ r. rw (starts-effect S (withPlace m c v k b x) w l s r e, starts-effect S m w l s r e))
+
+  -- an accepted choice whose line has slot s
+  with-slot : (n : Machine X) (c : Choice) (s : Slot) → slotOf n (c .line) ≡ s → Accepted (chooseBy S n c .answer) →
+      chooseBy S n c ≡ did S n (c .worker) (c .line) (countersBy n (c .line) s (n .counters)) (effect S n (c .worker) (c .line) s)
+  with-slot n c s e ok = subst (λ s. chooseBy S n c ≡ did S n (c .worker) (c .line) (countersBy n (c .line) s (n .counters)) (effect S n (c .worker) (c .line) s)) e
+      (accepted-choice S n (c .worker) (c .line) ok .1)
+
+  module _ (a b : Choice) (apart : a .line ≡ b .line → ⊥) (one-way : Every Accepted (answers S m (a ∷ b ∷ []))) (other-way : Every Accepted (answers S m (b ∷ a ∷ []))) where
+    -- the two lines' slots, and what their choices make
+    abbrev s : Slot
+    s = slotOf m (a .line)
+
+    abbrev t : Slot
+    t = slotOf m (b .line)
+
+    abbrev x : Effect X
+    x = effect S m (a .worker) (a .line) s
+
+    abbrev y : Effect X
+    y = effect S m (b .worker) (b .line) t
+
+    module _ (later : eqb (s .pipe .0) 0 ≡ false) where
+      -- the first line is past pipe 0
+      abbrev after-a : Machine X
+      after-a = withPlace m (countersBy m (a .line) s (m .counters)) (putSlot (m .slots) (a .line) (x .slot)) (m .placed) (m .stopped) (m .source)
+
+      abbrev after-b : Machine X
+      after-b = withPlace m (countersBy m (b .line) t (m .counters)) (putSlot (m .slots) (b .line) (y .slot)) (y .placed) (y .stopped) (y .source)
+
+      a-first : chooseBy S m a ≡ record { answer = x .answer; machine = after-a }
+      unfolding answers
+      a-first = with-slot m a s refl (one-way .0) ∙ ap (did S m (a .worker) (a .line) (countersBy m (a .line) s (m .counters)))
+          (past (a .worker) (a .line) s later (m .counters) (m .slots) (m .placed) (m .stopped) (m .source))
+
+      b-first : chooseBy S m b ≡ record { answer = y .answer; machine = after-b }
+      unfolding answers
+      b-first = with-slot m b t refl (other-way .0)
+
+      b-second : chooseBy S after-a b ≡ record {
+        answer = y .answer;
+        machine = withPlace m (countersBy m (b .line) t (after-a .counters)) (putSlot (after-a .slots) (b .line) (y .slot)) (y .placed) (y .stopped) (y .source);
+      }
+      unfolding answers effect entered countersBy
+      b-second = with-slot after-a b t (put-other (m .slots) (a .line) (x .slot) (b .line) (λ e. apart (sym e))) (rw a-first at (one-way .1 .0))
+
+      a-second : chooseBy S after-b a ≡ record {
+        answer = x .answer;
+        machine = withPlace m (countersBy m (a .line) s (after-b .counters)) (putSlot (after-b .slots) (a .line) (x .slot)) (y .placed) (y .stopped) (y .source);
+      }
+      unfolding answers countersBy
+      a-second = with-slot after-b a s (put-other (m .slots) (b .line) (y .slot) (a .line) apart) (rw b-first at (other-way .1 .0))
+          ∙ ap (did S after-b (a .worker) (a .line) (countersBy m (a .line) s (after-b .counters)))
+          (past (a .worker) (a .line) s later (after-b .counters) (after-b .slots) (y .placed) (y .stopped) (y .source))
+
+      -- the counters: those of two lines, of a machine in range
+      same-counters : countersBy m (b .line) t (after-a .counters) ≡ countersBy m (a .line) s (after-b .counters)
+      unfolding answers
+      same-counters =
+          let ranges : sound S m ≡ true = unspoiled-sound S m (a .worker) (a .line) (one-way .0 14) in
+          let a-in : a .line < m .lines = accepted-line S m (a .worker) (a .line) (one-way .0) in
+          let b-in : b .line < m .lines = accepted-line S m (b .worker) (b .line) (other-way .0) in
+          counters-swap m (pipes-most S m ranges) (a .line) (b .line) apart s t
+          (pipe-in S m ranges (a .line) a-in) (pipe-in S m ranges (b .line) b-in)
+          (accepted-choice S m (a .worker) (a .line) (one-way .0) .0) (accepted-choice S m (b .worker) (b .line) (other-way .0) .0) (m .counters)
+
+      later-swapped : Swapped S m a b
+      unfolding follow
+      later-swapped = record {
+        left =
+            ap (λ (c : Chosen X). chooseBy S (c .machine) b .machine) a-first ∙ ap (λ (c : Chosen X). c .machine) b-second
+            ∙ (λ i. withPlace m (same-counters i) (put-swap (m .slots) (a .line) (b .line) (x .slot) (y .slot) apart i) (y .placed) (y .stopped) (y .source))
+            ∙ sym (ap (λ (c : Chosen X). chooseBy S (c .machine) a .machine) b-first ∙ ap (λ (c : Chosen X). c .machine) a-second);
+        event-a = ap (λ (c : Chosen X). c .answer) a-first
+            ∙ sym (ap (λ (c : Chosen X). chooseBy S (c .machine) a .answer) b-first ∙ ap (λ (c : Chosen X). c .answer) a-second);
+        event-b = ap (λ (c : Chosen X). c .answer) b-first
+            ∙ sym (ap (λ (c : Chosen X). chooseBy S (c .machine) b .answer) a-first ∙ ap (λ (c : Chosen X). c .answer) b-second);
+      }
+
+  -- two choices on different lines that are not both at pipe 0
+  pub swapped-past : (a b : Choice) → (a .line ≡ b .line → ⊥) → Every Accepted (answers S m (a ∷ b ∷ [])) → Every Accepted (answers S m (b ∷ a ∷ [])) →
+      (slotOf m (a .line) .pipe .0 ≡ 0 → slotOf m (b .line) .pipe .0 ≡ 0 → ⊥) → Swapped S m a b
+  swapped-past a b apart one-way other-way n = elim (sameAs (slotOf m (a .line) .pipe .0) 0) [
+    | other d e ↦ later-swapped a b apart one-way other-way e
+    | same d e ↦
+        let r : Swapped S m b a = later-swapped b a (λ e. apart (sym e)) other-way one-way (ne-eqb (slotOf m (b .line) .pipe .0) 0 (n d)) in
+        record { left = sym (r .left); event-a = r .event-b; event-b = r .event-a }
+  ]

@@ -1,0 +1,114 @@
+-- A list of choices that is accepted is accepted under a larger limit too, and does the same.
+use mathlib.Core.Path.{_≡_, refl, ap, sym, _∙_}
+use mathlib.Core.Bool.{true}
+use mathlib.Core.List.{List, [], _∷_}
+use Prim.Native.Nat.{ℕ, _≤_, _<_}
+use native.Mathlib.Omega.{arith}
+use borrow.Author.Tests.{ltb-true, lt-ltb}
+use Rattle.vocabulary.specs.declared.Slot.{Slot}
+use Rattle.rules.specs.Lists.{Every, every}
+use Rattle.rules.specs.Sources.{Source}
+use Rattle.rules.specs.RunState.{Machine, slotOf}
+use Rattle.rules.specs.Ranges.{workerSound, slotSound, numbersSound, sound}
+use Rattle.rules.specs.Choices.{Choice, Answer, Refused, choose, chooseBy, answers, follow}
+use Rattle.rules.specs.WholeRuns.{Accepted, withWorkers}
+use Rattle.rules.specs.MoreWorkers.{acceptedIn, Reused, AcceptedReused, AnsweredAlike}
+use Rattle.rules.proofs.lists.Tests.{by-test}
+use Rattle.rules.proofs.lists.EveryLaws.{every-weaken}
+use Rattle.rules.proofs.lists.Holding.{first-holds, rest-hold}
+use Rattle.rules.proofs.invariant.Sound.{every-holds, within-range}
+use Rattle.rules.proofs.choices.SoundMachines.{slots-ok, slot-ok, workers-ok, workers-some}
+use Rattle.rules.proofs.choices.Outcomes.{unspoiled-sound, accepted-worker, workers-kept}
+use Rattle.rules.proofs.sources.Following.{choose-as, itself}
+use Rattle.rules.proofs.runs.AcceptedAlone.{events-accepted, alone-told, alone-left}
+
+-- an answer that is not 14
+abbrev Unspoiled : Answer → Type 0
+Unspoiled a = a ≡ Refused 14 → ⊥
+
+-- a choice that names one of so many workers
+abbrev Known : ℕ → Choice → Type 0
+Known workers c = c .worker < workers
+
+-- only choices of workers below W are accepted
+accepted-known : {X : Type 0} (S : Source X) (m : Machine X) (cs : List Choice) → Every Accepted (answers S m cs) → Every (Known (m .workers)) cs
+unfolding answers
+accepted-known S m [] ok = tt
+accepted-known S m (c ∷ cs) ok = (
+  accepted-worker S m (c .worker) (c .line) (ok .0),
+  rw (workers-kept S m (c .worker) (c .line)) at (accepted-known S (chooseBy S m c .machine) cs (ok .1)),
+)
+
+module _ {X : Type 0} (S : Source X) (large : ℕ) (most : large ≤ 32) where
+  module _ (m : Machine X) (more : m .workers ≤ large) where
+    -- the ranges hold of the larger W, and of the workers of running lines
+    module _ (ok : sound S m ≡ true) where
+      worker-more : (s : Slot) → workerSound (m .workers) s ≡ true → workerSound large s ≡ true
+      unfolding workerSound
+      worker-more s h = by-test (s .running)
+          (λ r. let few : s .worker .0 < m .workers = ltb-true _ _ (rw r at h) in rw (r, lt-ltb (s .worker .0) large (omega arith)))
+          (λ r. rw r (rw r at h))
+
+      slot-more : (l : ℕ) → l < 32 → slotSound (m .pipes) (m .lines) (m .tokens) large (m .slots) l ≡ true
+      unfolding slotSound
+      slot-more l i =
+          let h : slotSound (m .pipes) (m .lines) (m .tokens) (m .workers) (m .slots) l ≡ true = slot-ok S m ok l i in
+          let worker : workerSound (m .workers) (slotOf m l) ≡ true = first-holds (workerSound (m .workers) (slotOf m l)) _ h in
+          rw (worker-more (slotOf m l) worker) (rest-hold (workerSound (m .workers) (slotOf m l)) _ h)
+
+      sound-more : sound S (withWorkers large m) ≡ true
+      unfolding sound numbersSound
+      sound-more =
+          let all : every 32 (slotSound (m .pipes) (m .lines) (m .tokens) large (m .slots)) ≡ true = every-holds 32 _ slot-more in
+          rw (within-range 1 32 large (omega (arith, workers-some S m ok)) most, all) (rw (workers-ok S m ok, slots-ok S m ok) at ok)
+
+    -- a choice of a worker below W, not answered by 14, does the same under the larger W
+    choose-more : (w l : ℕ) → w < m .workers → (choose S m w l .answer ≡ Refused 14 → ⊥) → choose S (withWorkers large m) w l ≡
+        record { answer = choose S m w l .answer; machine = withWorkers large (choose S m w l .machine) }
+    choose-more w l known unspoiled =
+        let ranges : sound S m ≡ true = unspoiled-sound S m w l unspoiled in
+        choose-as (itself S) large m w l (sound-more ranges ∙ sym ranges)
+        (lt-ltb w large (omega arith) ∙ sym (lt-ltb w (m .workers) known)) unspoiled
+
+  -- lists of choices
+  more-told : (m : Machine X) → m .workers ≤ large → (cs : List Choice) → Every (Known (m .workers)) cs → Every Unspoiled (answers S m cs) →
+      answers S (withWorkers large m) cs ≡ answers S m cs
+  unfolding answers
+  more-told m more [] known ok = refl
+  more-told m more (c ∷ cs) known ok =
+      let kept = workers-kept S m (c .worker) (c .line) in
+      rw (
+        choose-more m more (c .worker) (c .line) (known .0) (ok .0),
+        more-told (chooseBy S m c .machine) (omega arith) cs (rw kept (known .1)) (ok .1),
+      )
+
+  more-left : (m : Machine X) → m .workers ≤ large → (cs : List Choice) → Every (Known (m .workers)) cs → Every Unspoiled (answers S m cs) →
+      follow S (withWorkers large m) cs ≡ withWorkers large (follow S m cs)
+  unfolding answers follow
+  more-left m more [] known ok = refl
+  more-left m more (c ∷ cs) known ok =
+      let kept = workers-kept S m (c .worker) (c .line) in
+      rw (
+        choose-more m more (c .worker) (c .line) (known .0) (ok .0),
+        more-left (chooseBy S m c .machine) (omega arith) cs (rw kept (known .1)) (ok .1),
+      )
+
+  -- from any machine, also one that no run leaves
+  module _ (m : Machine X) (more : m .workers ≤ large) (cs : List Choice) where
+    pub alike : Every (Known (m .workers)) cs → Every Unspoiled (answers S m cs) → AnsweredAlike S m (withWorkers large m) cs
+    alike known ok = record { told = more-told m more cs known ok; left = more-left m more cs known ok }
+
+    pub reused : Every Accepted (answers S m cs) → Reused S m (withWorkers large m) cs
+    reused ok =
+        let same = alike (accepted-known S m cs ok) (every-weaken Accepted Unspoiled (λ a event. event 14) (answers S m cs) ok) in
+        record { accepted = rw (same .told) ok; events = same .told; left = same .left }
+
+  pub accepted-reused : (m : Machine X) → m .workers ≤ large → (cs : List Choice) → AcceptedReused S m (withWorkers large m) cs
+  accepted-reused m more cs =
+      let ok : Every Accepted (answers S m (acceptedIn S m cs)) = rw (alone-told S m cs) (events-accepted (answers S m cs)) in
+      let again = reused m more (acceptedIn S m cs) ok in
+      record {
+        accepted = again .accepted;
+        events = again .events ∙ alone-told S m cs;
+        left = again .left ∙ ap (withWorkers large) (alone-left S m cs);
+      }
