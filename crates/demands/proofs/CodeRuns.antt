@@ -36,7 +36,7 @@ use Rattle.state.proofs.in_range.SoundLaws.{ended-is as ended-as-rules}
 use Rattle.demands.proofs.Unchanged.{refused-unchanged}
 
 -- the calls' answers and the machine that they leave are those of the rules' lists of choices
-calls-told : {s t : State} {m end : List ℕ} {cs : List Choice} {told : List Answer} → Calls s m cs told t end →
+pub calls-told : {s t : State} {m end : List ℕ} {cs : List Choice} {told : List Answer} → Calls s m cs told t end →
     (map answerOf told ≡ answers memorySource (machineOf s m) cs) × (machineOf t end ≡ follow memorySource (machineOf s m) cs)
 unfolding answers follow chosenOf
 calls-told no-call = (refl, refl)
@@ -61,15 +61,15 @@ module _ {p : Plan} (demands : Demands p) (m : List ℕ) (enough : 32768 ≤ len
       absurd (last-unspoiled _ cs c (demands .runs m enough workers manned (cs ++ (c ∷ [])) .never-spoiled) (rw no)))
 
 -- a session is one of this plan's runs
-record RunOf (p : Plan) {file : List ℕ} {workers : ℕ} {m : List ℕ} {cs : List Choice} (s : Session file workers m cs) : Type 0 where
-  events-are : eventsOf s ≡ told p m workers cs
-  left-is : machineOf (s .state) (s .memory) ≡ left p m workers cs
-  ended-is : endedOf (s .state) ≡ ended (left p m workers cs)
+pub record RunOf (p : Plan) {file : List ℕ} {workers : ℕ} {m : List ℕ} {cs : List Choice} (s : Session file workers m cs) : Type 0 where
+  pub events-are : eventsOf s ≡ told p m workers cs
+  pub left-is : machineOf (s .state) (s .memory) ≡ left p m workers cs
+  pub ended-is : endedOf (s .state) ≡ ended (left p m workers cs)
 
 module _ {file : List ℕ} (bytes : Bytes file) where
   module _ {workers : ℕ} {m : List ℕ} {cs : List Choice} (s : Session file workers m cs) where
     -- its opening
-    here : OpenedRun file workers m
+    pub here : OpenedRun file workers m
     here = opened-run file bytes workers m (ap (λ o. o .answer) (sym (s .opens .0)) ∙ s .accepts)
 
     begins : machineOf (s .opening .state) (s .begun) ≡ opened (pipelineOf (here .plan)) workers (begun (here .plan) m)
@@ -78,7 +78,7 @@ module _ {file : List ℕ} (bytes : Bytes file) where
         ∙ ap (machineOf (openOf file workers m .0 .state)) (s .opens .1)
         ∙ here .machine
 
-    run-here : RunOf (here .plan) s
+    pub run-here : RunOf (here .plan) s
     run-here =
         let (told-is, left-is) = calls-told (s .calls) in
         let end = left-is ∙ ap (λ a. follow memorySource a cs) begins in
@@ -90,7 +90,7 @@ module _ {file : List ℕ} (bytes : Bytes file) where
         }
 
     -- it is a run of every valid plan with this file
-    run-of : (p : Plan) → Valid p → file ≡ encode p → RunOf p s
+    pub run-of : (p : Plan) → Valid p → file ≡ encode p → RunOf p s
     run-of p valid file-is = subst (λ q. RunOf q s) (one-plan (here .plan) p (here .valid) valid (sym (here .file-is) ∙ file-is)) run-here
 
   -- the end states of two sessions

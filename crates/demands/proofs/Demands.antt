@@ -70,7 +70,7 @@ module _ (p : Plan) (valid : Valid p) (m : List ℕ) where
       Writes pair pair-begun (order p) (resting (closed (p .tokens) (numbers p)) y q)
   pair-writes = joint-writes (p .tokens) (numbers p) (others valid) (sheet-writes (p .tokens) (numbers p) (others valid)) (begun p m) at-opening
 
-  last : State
+  pub last : State
   last = pair-writes .0
 
   -- what writes the plain sheet has it for its sheet
@@ -81,12 +81,12 @@ module _ (p : Plan) (valid : Valid p) (m : List ℕ) where
     known = λ k h. sheet-below (p .tokens) (numbers p) (others valid) (getD (order p) k 0) (on-sheet k h);
   }
 
-  memory-sheet : Sheet memorySource (pipelineOf p) (begun p m) (order p) last
+  pub memory-sheet : Sheet memorySource (pipelineOf p) (begun p m) (order p) last
   unfolding memorySide last
   memory-sheet = as-sheet (writes-map memory-side (pair-writes .2))
 
   module _ (workers : ℕ) (manned : WorkersInRange workers) (cs : List Choice) where
-    run : WholeRun memorySource (pipelineOf p) workers (begun p m) cs (order p) last
+    pub run : WholeRun memorySource (pipelineOf p) workers (begun p m) cs (order p) last
     run = whole-run (ranged valid) manned memory-sheet cs
 
     -- demand 2
@@ -96,7 +96,7 @@ module _ (p : Plan) (valid : Valid p) (m : List ℕ) where
     pair-unspoiled : Every (λ a. a ≡ Refused 14 → ⊥) (answers pair pair-opened cs)
     pair-unspoiled = whole-run (ranged valid) manned (as-sheet (pair-writes .2)) cs .never-spoiled
 
-    same-answers : told p m workers cs ≡ answers (plainSource (p .tokens) (numbers p)) (opened (pipelineOf p) workers rules.opened) cs
+    pub same-answers : told p m workers cs ≡ answers (plainSource (p .tokens) (numbers p)) (opened (pipelineOf p) workers rules.opened) cs
     unfolding opened memorySide ruleSide
     same-answers =
         answers-map memory-side pair-opened cs pair-unspoiled
@@ -176,7 +176,7 @@ module _ (p : Plan) (valid : Valid p) where
   memory-lent m workers cs = follow-keeps (length-kept _) (opened (pipelineOf p) workers (begun p m)) (length-laid valid m) cs
 
   module _ (m : List ℕ) (workers : ℕ) (manned : WorkersInRange workers) (cs : List Choice) where
-    kept-beyond : left p m workers cs ≡ mapMachine (beyond (drop 32768 m)) (left p [] workers cs)
+    pub kept-beyond : left p m workers cs ≡ mapMachine (beyond (drop 32768 m)) (left p [] workers cs)
     unfolding opened memorySide
     kept-beyond =
         let r : List ℕ = drop 32768 m in
@@ -186,7 +186,7 @@ module _ (p : Plan) (valid : Valid p) where
         ap (λ (x : State). follow memorySource (opened (pipelineOf p) workers x) cs) (begun-beyond m) ∙ more ∙ ap (mapMachine (beyond r)) (sym plain)
 
     -- so the end state is that of a run with no other memory
-    plain-end : endState (left p m workers cs) ≡ endState (left p [] workers cs)
+    pub plain-end : endState (left p m workers cs) ≡ endState (left p [] workers cs)
     plain-end =
         let plain : Machine State = left p [] workers cs in
         let long : 32768 ≤ length (plain .source .1) = same-machine p valid [] workers manned cs .tables .whole in

@@ -10,5 +10,9 @@ pub mod Demands
 pub mod Opens
 -- a refused choice leaves state and memory as they were;
 pub mod Unchanged
--- and every session of the code is as the demands say.
+-- every session of the code is as the demands say;
 pub mod CodeRuns
+-- its choices do the same under a larger limit;
+pub mod MoreWorkers
+-- and two after it do the same in either order.
+pub mod Swapping

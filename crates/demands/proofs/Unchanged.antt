@@ -13,7 +13,7 @@ use Rattle.demands.specs.CodeRuns.{ChooseCall}
 use Rattle.rules.specs.Answers.{answerOf}
 
 -- two states and memories with one machine are one
-same-state : (s t : State) (mem mem′ : List ℕ) → machineOf s mem ≡ machineOf t mem′ → (s ≡ t) × (mem ≡ mem′)
+pub same-state : (s t : State) (mem mem′ : List ℕ) → machineOf s mem ≡ machineOf t mem′ → (s ≡ t) × (mem ≡ mem′)
 unfolding machineOf
 same-state s t mem mem′ e = (
   λ i. record {

@@ -2,5 +2,8 @@
 pub mod Demands
 -- an accepted opening, and what follows for every run from it;
 pub mod OpenedRun
--- and runs of the code, with what the demands say of them.
+-- runs of the code, with what the demands say of them;
 pub mod CodeRuns
+-- a session's choices under a larger limit, and two in either order (02, 2.12).
+pub mod MoreWorkers
+pub mod Swapping
