@@ -31,7 +31,7 @@ abbrev Known : ℕ → Choice → Type 0
 Known workers c = c .worker < workers
 
 -- only choices of workers below W are accepted
-pub accepted-known : {X : Type 0} (S : Source X) (m : Machine X) (cs : List Choice) → Every Accepted (answers S m cs) → Every (Known (m .workers)) cs
+accepted-known : {X : Type 0} (S : Source X) (m : Machine X) (cs : List Choice) → Every Accepted (answers S m cs) → Every (Known (m .workers)) cs
 unfolding answers
 accepted-known S m [] ok = tt
 accepted-known S m (c ∷ cs) ok = (
