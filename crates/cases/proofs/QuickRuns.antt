@@ -11,7 +11,7 @@ use Rattle.rules.specs.Lists.{if, must, mustNot, all, every}
 use Rattle.rules.specs.Sources.{Source}
 use Rattle.rules.specs.RunState.{Machine}
 use Rattle.rules.specs.Ranges.{numbersSound, serialSound, slotSound, mostAt, counterSound, sound}
-use Rattle.rules.specs.Choices.{Choice, Chosen, refuse, ended, move, choose, chooseBy, follow}
+use Rattle.rules.specs.Choices.{Choice, Chosen, Answer, refuse, ended, move, choose, chooseBy, answers, follow}
 use Rattle.rules.proofs.lists.Tests.{by-test}
 
 -- a test of so many numbers of a list, each with its place, from place i on; past the list's end they are 0
@@ -97,3 +97,14 @@ module _ {X : Type 0} (S : Source X) where
   quick-follow m [] = refl
   quick-follow m (c ∷ cs) =
       ap (λ (d : Chosen X). follow S (d .machine) cs) (quick-choose m c) ∙ quick-follow (quickChoose m c .machine) cs
+
+  unfoldable pub quickAnswers : Machine X → List Choice → List Answer
+  quickAnswers m [] = []
+  quickAnswers m (c ∷ cs) = quickChoose m c .answer ∷ quickAnswers (quickChoose m c .machine) cs
+
+  pub quick-answers : (m : Machine X) (cs : List Choice) → answers S m cs ≡ quickAnswers m cs
+  unfolding answers quickAnswers
+  quick-answers m [] = refl
+  quick-answers m (c ∷ cs) =
+      ap (λ (d : Chosen X). d .answer ∷ answers S (d .machine) cs) (quick-choose m c)
+      ∙ ap (λ (told : List Answer). quickChoose m c .answer ∷ told) (quick-answers (quickChoose m c .machine) cs)

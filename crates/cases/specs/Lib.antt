@@ -1,4 +1,8 @@
 -- "Plans with known orders";
 pub mod KnownOrders
--- and the example of lines listed alone.
+-- the example of lines listed alone;
 pub mod LinesAlone
+-- its choices under other limits (02, 2.12);
+pub mod MoreWorkers
+-- and two choices in either order, also from states that no run leaves.
+pub mod Swapping

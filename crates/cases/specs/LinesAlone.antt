@@ -14,17 +14,16 @@ use Rattle.rules.specs.PlainSheet.{plainSource}
 abbrev pub lines : List ℕ
 lines = 0 ∷ 0 ∷ 0 ∷ 1 ∷ 1 ∷ 1 ∷ 1 ∷ []
 
--- the plan, whose pipe 1 is serial or is not, opened with W = 2; no token has a record
-module _ (serial : Bool) where
-  abbrev source : Source Tables
-  source = plainSource 2 (λ n. [])
+-- the plan, whose pipe 1 is serial or is not, opened with so many workers; no token has a record
+abbrev pub source : Source Tables
+source = plainSource 2 (λ n. [])
 
-  abbrev begun : Machine Tables
-  begun = opened (record { pipes = 2; lines = 2; tokens = 2; serial = true ∷ serial ∷ [] }) 2 tables.opened
+abbrev pub begun : Bool → ℕ → Machine Tables
+begun serial workers = opened (record { pipes = 2; lines = 2; tokens = 2; serial = true ∷ serial ∷ [] }) workers tables.opened
 
-  -- what the lines are answered
-  unfoldable pub answered : List Answer
-  answered = answers source begun (choicesOf source begun lines)
+-- what the lines are answered with W = 2
+unfoldable pub answered : Bool → List Answer
+answered serial = answers source (begun serial 2) (choicesOf source (begun serial 2) lines)
 
 -- with pipe 1 parallel token 1, with worker 1, has finished it and token 0, with worker 0, has not
 abbrev pub overtaken : List Answer

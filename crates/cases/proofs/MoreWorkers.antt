@@ -1,0 +1,44 @@
+-- The example of lines listed alone under other limits holds of the rules: it is computed.
+use mathlib.Core.Path.{_≡_, refl, ap}
+use mathlib.Core.Bool.{false}
+use mathlib.Core.List.{List}
+use Prim.Native.Nat.{ℕ}
+use Rattle.rules.specs.Lists.{within, every, keep, has, empty, table}
+use Rattle.rules.specs.TakingTokens.{isDue, takeNew, takeFrom, release}
+use Rattle.rules.specs.TakingTokens as tables
+use Rattle.rules.specs.RunState.{slotAt, putSlot, allIdle}
+use Rattle.rules.specs.Ranges.{sound, numbersSound, isIdle, isLoaded, workerSound, slotSound, mostAt, counterSound, serialSound}
+use Rattle.rules.specs.Choices.{Choice, Answer, opened, openedCounter, tabled, answers, choose, move, start, startFirst, startLater}
+use Rattle.rules.specs.Choices.{finish, finishFirst, finishWith, settle, fall, ended, movable, atWork}
+use Rattle.rules.specs.Workers.{firstIdle, workerFor, choicesOf}
+use Rattle.rules.specs.MoreWorkers.{acceptedChoices, withoutRefusals}
+use Rattle.cases.specs.LinesAlone.{source, begun}
+use Rattle.cases.specs.MoreWorkers.{told, practised, sheet, strayed, Worked}
+use Rattle.cases.proofs.QuickRuns.{walked, countersWalked, quickSound, quickChoose, quickAnswers, quick-answers}
+
+-- the answers, computed quickly
+unfoldable pub quick : ℕ → List Choice → List Answer
+quick workers = quickAnswers source (begun false workers)
+
+pub quick-told : (workers : ℕ) (cs : List Choice) → told workers cs ≡ quick workers cs
+unfolding told quick
+quick-told workers cs = quick-answers source (begun false workers) cs
+
+pub worked : Worked
+unfolding quick quickAnswers quickChoose quickSound countersWalked walked
+    practised acceptedChoices withoutRefusals choicesOf workerFor firstIdle tables.take takeFrom takeNew release isDue keep has empty
+    opened openedCounter tabled table answers choose move start startFirst startLater finish finishFirst finishWith settle
+    fall ended movable atWork sound numbersSound within isIdle isLoaded workerSound slotSound mostAt counterSound serialSound every slotAt putSlot allIdle
+worked = record {
+  named = refl;
+  two = quick-told 2 sheet;
+  three = quick-told 3 sheet;
+  most = quick-told 32 sheet;
+  none = quick-told 1 _;
+  one = quick-told 1 _;
+  strays = quick-told 2 strayed;
+  accepted = ap (acceptedChoices strayed) (quick-told 2 strayed);
+  events = ap withoutRefusals (quick-told 2 strayed);
+  again = quick-told 3 _;
+  whole = quick-told 3 strayed;
+}

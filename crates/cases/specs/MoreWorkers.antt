@@ -1,0 +1,52 @@
+-- More workers, same sheet (02, 2.12), worked out: the example of lines listed alone, under other limits.
+use mathlib.Core.Path.{_≡_}
+use mathlib.Core.Bool.{false}
+use mathlib.Core.List.{List, [], _∷_, _++_}
+use Prim.Native.Nat.{ℕ}
+use Rattle.rules.specs.Choices.{Choice, Answer, Started, Finished, Refused, answers}
+use Rattle.rules.specs.Workers.{choicesOf}
+use Rattle.rules.specs.MoreWorkers.{acceptedChoices, withoutRefusals}
+use Rattle.cases.specs.LinesAlone.{lines, source, begun, overtaken}
+
+-- a choice of a worker and a line
+abbrev pub by : ℕ → ℕ → Choice
+by w l = record { worker = w; line = l }
+
+-- the answers with so many workers
+unfoldable pub told : ℕ → List Choice → List Answer
+told workers choices = answers source (begun false workers) choices
+
+-- practice's choices for the lines, with W = 2
+unfoldable pub practised : List Choice
+practised = choicesOf source (begun false 2) lines
+
+abbrev pub sheet : List Choice
+sheet = by 0 0 ∷ by 0 0 ∷ by 0 0 ∷ by 1 1 ∷ by 1 1 ∷ by 1 1 ∷ by 1 1 ∷ []
+
+-- a list with refused choices among others: a worker that W = 2 has not, a line that must wait, a worker who runs another line
+abbrev pub strayed : List Choice
+strayed = by 2 0 ∷ by 0 0 ∷ by 1 1 ∷ by 0 0 ∷ by 0 0 ∷ by 0 1 ∷ []
+
+-- the first three events
+abbrev pub begins : List Answer
+begins = Started 0 0 0 0 0 ∷ Finished 0 0 0 0 0 ∷ Started 0 1 0 0 0 ∷ []
+
+pub record Worked : Type 0 where
+  -- line 0 is worker 0's, and line 1 worker 1's
+  pub named : practised ≡ sheet
+  -- accepted with two workers, and with three or 32, with the same events
+  pub two : told 2 sheet ≡ overtaken
+  pub three : told 3 sheet ≡ overtaken
+  pub most : told 32 sheet ≡ overtaken
+  -- with one worker there is no worker 1, and worker 0 cannot start line 1 while line 0 is worker 0's
+  pub none : told 1 (by 0 0 ∷ by 0 0 ∷ by 0 0 ∷ by 1 1 ∷ []) ≡ begins ++ (Refused 26 ∷ [])
+  pub one : told 1 (by 0 0 ∷ by 0 0 ∷ by 0 0 ∷ by 0 1 ∷ []) ≡ begins ++ (Refused 13 ∷ [])
+  -- refused choices among others: with more workers the accepted ones by themselves have the same events
+  pub strays : told 2 strayed ≡
+      Refused 26 ∷ Started 0 0 0 0 0 ∷ Refused 12 ∷ Finished 0 0 0 0 0 ∷ Started 0 1 0 0 0 ∷ Refused 13 ∷ []
+  pub accepted : acceptedChoices strayed (told 2 strayed) ≡ by 0 0 ∷ by 0 0 ∷ by 0 0 ∷ []
+  pub events : withoutRefusals (told 2 strayed) ≡ begins
+  pub again : told 3 (by 0 0 ∷ by 0 0 ∷ by 0 0 ∷ []) ≡ begins
+  -- the whole list need not: worker 2, refused with W = 2, is accepted with W = 3
+  pub whole : told 3 strayed ≡
+      Started 0 0 0 0 2 ∷ Refused 26 ∷ Refused 12 ∷ Refused 26 ∷ Refused 26 ∷ Refused 12 ∷ []
