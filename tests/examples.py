@@ -59,6 +59,7 @@ def orders():
         yield name + ".all-lines", name, all_lines(plan, min(plan.lines, 32))
     choices = by_practice(PLANS["overtaking"], 2, [0, 0, 0, 1, 1, 1, 1])
     yield "overtaking.overtakes", "overtaking", program_input(2, choices)
+    yield "overtaking.more-workers", "overtaking", program_input(32, choices)
     # 26 and 12 before the first start, 26 for another worker's finish, 13 for a busy worker, 10.
     choices = [(2, 0), (0, 1), (0, 0), (1, 0), (0, 0), (0, 0), (0, 1), (1, 1), (0, 2)]
     yield "backwards.refused", "backwards", program_input(2, choices)

@@ -4,9 +4,13 @@
 
 Each case is a plan file and an input in a folder of its own. The first
 difference is written out in hexadecimal and ends the comparison with 1.
+
+In some cases the program runs again on the choices that it accepted: under a
+larger limit, and with neighbours exchanged.
 """
 
 import argparse
+import copy
 import subprocess
 import sys
 import tempfile
@@ -21,10 +25,13 @@ import plan_file
 from chance import Chance
 from plan_file import Plan, Refused, encode
 from program import output
-from run import Run
+from run import MOST_WORKERS, Run
 
 # A program that hangs differs, too.
 LONGEST_ANSWER = 120
+
+REUSED = "reused under a larger limit"
+EXCHANGED = "neighbours exchanged"
 
 
 def random_plan(chance):
@@ -192,6 +199,74 @@ def show_difference(number, seed, data, stdin, expected, there, why):
             return
 
 
+def differs(wanted, folder, number, data, stdin, expected, what=""):
+    """Whether the program prints anything else; if so, this is written out."""
+    there, why = answer_of(wanted.program, folder, data, stdin)
+    if there == expected:
+        return False
+    show_difference(number, wanted.seed, data, stdin, expected, there, f"{what} {why}".strip())
+    return True
+
+
+def accepted_of(stdin, lines):
+    """The choices that were accepted, each with the line printed for it."""
+    choices = zip(stdin[1::2], stdin[2::2])
+    return [(choice, line) for choice, line in zip(choices, lines) if not line.startswith(b"R")]
+
+
+def takes_both(run, first, second):
+    """Whether the run would accept these two choices, one after the other."""
+    if run.refusal(*first):
+        return False
+    ahead = copy.deepcopy(run)
+    ahead.choose(*first)
+    return not ahead.refusal(*second)
+
+
+def exchanged(chance, plan, workers, accepted):
+    """The list with some neighbours exchanged, and how often that was done.
+
+    They are on different lines, and the second implementation accepts them in
+    the other order, too. One of the two may be exchanged again with the next.
+    """
+    run = Run(plan, workers)
+    often = max(2, len(accepted) // 40)
+    accepted = list(accepted)
+    many = 0
+    for at in range(len(accepted) - 1):
+        (first, _), (second, _) = accepted[at:at + 2]
+        if first[1] != second[1] and chance.one_in(often) and takes_both(run, second, first):
+            accepted[at:at + 2] = accepted[at + 1], accepted[at]
+            many += 1
+        run.choose(*accepted[at][0])
+    return accepted, many
+
+
+def made_of(workers, accepted, last):
+    """An input with these choices alone, and the text of their lines."""
+    stdin = makers.program_input(workers, [choice for choice, _ in accepted])
+    return stdin, b"\n".join([line for _, line in accepted] + [last, b""])
+
+
+def runs_again(chance, data, stdin, text):
+    """Request 2.12: kind, how much it counts, an input and what must be printed.
+
+    Made of a case's own accepted choices and lines, in one case of four, and of
+    the long ones in one of forty.
+    """
+    *lines, last = text.split(b"\n")[:-1]
+    if last.startswith(b"R") or not chance.one_in(4 if len(stdin) < 2000 else 40):
+        return
+    workers = stdin[0]
+    accepted = accepted_of(stdin, lines)
+    if accepted and workers < MOST_WORKERS:
+        larger = chance.between(workers + 1, MOST_WORKERS)
+        yield (REUSED, 1, *made_of(larger, accepted, last))
+    accepted, many = exchanged(chance, plan_file.read(data), workers, accepted)
+    if many:
+        yield (EXCHANGED, many, *made_of(workers, accepted, last))
+
+
 def count_up(figures, stdin, expected):
     """Adds what happened in one case; input and output tell it."""
     lines = expected.decode("ascii").split("\n")[:-1]
@@ -218,12 +293,12 @@ def count_up(figures, stdin, expected):
             figures["accepted choices"] += 1
 
 
-def summary(cases, figures):
+def summary(figures):
     def by_number(kind, numbers):
         return " ".join(f"{number}:{figures[kind, number]}" for number in numbers)
 
     return (
-        f"cases {cases}; accepted plans {figures['accepted plans']};"
+        f"cases {figures['cases']}; accepted plans {figures['accepted plans']};"
         f" refused plans {by_number('plans', range(1, 8))};"
         f" refused openings {by_number('openings', [8])};"
         f" choices {figures['choices']}; accepted choices {figures['accepted choices']};"
@@ -231,8 +306,27 @@ def summary(cases, figures):
         f" ended runs {figures['ended runs']};"
         f" 26 for W or more {figures['26 beyond W']}, for another worker {figures['26 another']};"
         f" lone last bytes {figures['lone last bytes']}; no choice {figures['no choice']};"
-        f" W none:{figures['W', None]} {by_number('W', [0, 1, 32, 33])} above:{figures['W', 34]}"
+        f" W none:{figures['W', None]} {by_number('W', [0, 1, 32, 33])} above:{figures['W', 34]};"
+        f" {REUSED} {figures[REUSED]}; {EXCHANGED} {figures[EXCHANGED]}"
     )
+
+
+def compare(wanted, folder, figures):
+    """Cases until the time is over; False as soon as one differs."""
+    chance = Chance(wanted.seed)
+    until = time.monotonic() + wanted.seconds
+    while time.monotonic() < until:
+        data, stdin = random_case(chance)
+        expected = output(data or b"", stdin)
+        figures["cases"] += 1
+        if differs(wanted, folder, figures["cases"], data, stdin, expected):
+            return False
+        count_up(figures, stdin, expected)
+        for kind, many, again, lines in runs_again(chance, data, stdin, expected):
+            if differs(wanted, folder, figures["cases"], data, again, lines, kind):
+                return False
+            figures[kind] += many
+    return True
 
 
 def main():
@@ -241,25 +335,13 @@ def main():
     parser.add_argument("--seconds", type=float, default=10)
     parser.add_argument("--seed", type=int, default=1)
     wanted = parser.parse_args()
-    program = str(Path(wanted.program).resolve())
+    wanted.program = str(Path(wanted.program).resolve())
 
-    chance = Chance(wanted.seed)
     figures = Counter()
-    cases = 0
-    until = time.monotonic() + wanted.seconds
     with tempfile.TemporaryDirectory() as folder:
-        while time.monotonic() < until:
-            data, stdin = random_case(chance)
-            expected = output(data or b"", stdin)
-            there, why = answer_of(program, folder, data, stdin)
-            cases += 1
-            if there != expected:
-                show_difference(cases, wanted.seed, data, stdin, expected, there, why)
-                print(summary(cases, figures))
-                return 1
-            count_up(figures, stdin, expected)
-    print(summary(cases, figures))
-    return 0
+        same = compare(wanted, folder, figures)
+    print(summary(figures))
+    return 0 if same else 1
 
 
 if __name__ == "__main__":

@@ -1,7 +1,10 @@
 """What the paper states with figures, and the whole-run claims on random plans."""
 
+import copy
 import sys
 import unittest
+from collections import Counter
+from itertools import combinations
 from pathlib import Path
 
 HERE = Path(__file__).resolve().parent
@@ -14,7 +17,7 @@ from chance import Chance
 from makers import by_practice, one_worker_list, program_input, raw_file, raw_record
 from plan_file import Plan, Refused, encode
 from program import output
-from run import FINISHED, PIPES_EACH, REFUSED, STARTED, STOPPED, Run
+from run import FINISHED, MOST_WORKERS, PIPES_EACH, REFUSED, STARTED, STOPPED, Run
 from run_vectors import checksum, made_input, refusal_entries
 from sheet import plain_sheet, stays_by_chains
 from tables import Tables
@@ -603,6 +606,167 @@ class WholeRuns(unittest.TestCase):
         stuck = Plan([True], 1, 4096, records[:-1] + [(4094, [4095]), (4095, [4096])])
         self.assertEqual(plain_sheet(stuck).stays, list(range(4096)))
         self.assertEqual(stays_by_chains(stuck), list(range(4096)))
+
+
+class MoreWorkers(unittest.TestCase):
+    """Request 2.12, with the workers of 2.14."""
+
+    def lists(self, chance, plan, workers):
+        """Of most lists some choices are refused; they end anywhere in a run."""
+        most = chance.between(1, 200)
+        yield makers.allowed_list(chance, plan, workers, most)
+        yield makers.allowed_list(chance, plan, workers, most, strays=3)
+        yield makers.random_list(chance, plan, workers, most, past=2)
+        yield [(chance.below(workers + 2), chance.below(plan.lines + 1)) for _ in range(most)]
+
+    def check_same(self, plan, larger, choices, run, answers):
+        for workers in larger:
+            again, there = events(plan, workers, choices)
+            self.assertEqual(there, answers)
+            self.assertEqual(again.state(), run.state())
+
+    def check_reuse(self, plan, workers, choices, larger):
+        run, answers = events(plan, workers, choices)
+        accepted = [choice for choice, event in zip(choices, answers) if event[0] != REFUSED]
+        happened = [event for event in answers if event[0] != REFUSED]
+        self.check_same(plan, larger, accepted, run, happened)
+        return len(accepted), len(choices)
+
+    def test_reuse(self):
+        chance = Chance(3005)
+        whole = parts = 0
+        for _ in range(100):
+            plan = makers.random_plan(chance, pipes=3, lines=5, tokens=10)
+            workers = chance.pick([1, 1, 2, 3, 4, 31, chance.between(1, 31)])
+            # W itself too: what is refused plays no part.
+            larger = range(workers, MOST_WORKERS + 1)
+            for choices in self.lists(chance, plan, workers):
+                accepted, many = self.check_reuse(plan, workers, choices, larger)
+                whole += accepted == many
+                parts += 0 < accepted < many
+        self.assertGreaterEqual(whole, 100)
+        self.assertGreater(parts, 200)
+
+    def test_reuse_on_many_lines(self):
+        chance = Chance(3006)
+        for _ in range(20):
+            plan = makers.random_plan(chance, pipes=16, lines=32, tokens=60)
+            workers = chance.between(1, 31)
+            for choices in self.lists(chance, plan, workers):
+                self.check_reuse(plan, workers, choices, (workers + 1, MOST_WORKERS))
+
+    def test_refused_ones_that_more_workers_change(self):
+        # Only those by a worker of W or more: 13 goes by the named worker alone.
+        chance = Chance(3007)
+        for _ in range(60):
+            plan = makers.random_plan(chance, pipes=3, lines=5, tokens=10)
+            workers = chance.between(1, 4)
+            for choices in self.lists(chance, plan, workers):
+                choices = [(worker % workers, line) for worker, line in choices]
+                run, answers = events(plan, workers, choices)
+                self.check_same(plan, (workers + 1, MOST_WORKERS), choices, run, answers)
+        plan = Plan([True], 1, 1)
+        self.assertEqual(events(plan, 1, [(1, 0)])[1], [(REFUSED, 26)])
+        self.assertEqual(events(plan, 2, [(1, 0)])[1], [(STARTED, 0, 0, 0, 0, 1)])
+
+    def test_reuse_of_the_wrong_turn(self):
+        plan = Plan([True, False], 2, 2)
+        choices = by_practice(plan, 2, WrongTurns.LINES)
+        self.assertEqual(choices, [(0, 0)] * 3 + [(1, 1)] * 4)
+        self.assertEqual(self.check_reuse(plan, 2, choices, (3, 32)), (7, 7))
+        # Fewer workers are another matter.
+        for worker, number in ((1, 26), (0, 13)):
+            _, answers = events(plan, 1, choices[:3] + [(worker, 1)])
+            self.assertEqual(answers[3], (REFUSED, number))
+
+    def allowed(self, run):
+        return [
+            (worker, line) for line in range(run.lines) for worker in range(run.workers)
+            if not run.refusal(worker, line)
+        ]
+
+    def after(self, run, *choices):
+        """The event of each choice, and the run they leave; the run given stays as it is."""
+        run = copy.deepcopy(run)
+        return {choice: run.choose(*choice) for choice in choices}, run
+
+    def kinds(self, happened):
+        return "".join(sorted(event[0] for event in happened.values()))
+
+    def check_swaps(self, run):
+        """All pairs on different lines; how many were accepted in both orders, by kind."""
+        compared = Counter()
+        for one, two in combinations(self.allowed(run), 2):
+            if one[1] == two[1]:
+                continue
+            ahead, left = self.after(run, one, two)
+            back, right = self.after(run, two, one)
+            if REFUSED in self.kinds(ahead) + self.kinds(back):
+                continue
+            self.assertEqual(ahead, back)
+            self.assertEqual((left.state(), left.line_of), (right.state(), right.line_of))
+            compared[self.kinds(ahead)] += 1
+        return compared
+
+    def takers(self, run):
+        """The lines that may take a token or run pipe 0; in a run never two."""
+        return [
+            line for line in range(run.lines)
+            if run.at[line] == 0 and (run.running[line] or not run.counters[line * PIPES_EACH])
+        ]
+
+    def test_swap(self):
+        chance = Chance(3008)
+        compared = Counter()
+        for _ in range(200):
+            plan = makers.random_plan(chance, pipes=4, lines=6, tokens=8)
+            workers = chance.between(2, 4)
+            run = Run(plan, workers)
+            for choice in makers.allowed_list(chance, plan, workers, chance.between(1, 70)):
+                self.assertLess(len(self.takers(run)), 2)
+                compared += self.check_swaps(run)
+                run.choose(*choice)
+        # With one taker there are no two stops.
+        self.assertEqual(set(compared), {"SS", "FS", "FF", "SX", "FX"})
+        self.assertGreater(min(compared[kind] for kind in ("SS", "FS", "FF")), 500)
+        self.assertGreater(sum(compared.values()), 5000)
+
+    def two_takers(self, plan):
+        """A state that no run leaves: line 2 may take a token as well as line 0."""
+        run = Run(plan, 3)
+        run.counters[2 * PIPES_EACH] = 0
+        return run
+
+    def check_orders_differ(self, run, one, two, kinds):
+        self.assertEqual(self.takers(run), [0, 2])
+        ahead, left = self.after(run, one, two)
+        back, right = self.after(run, two, one)
+        self.assertEqual((self.kinds(ahead), self.kinds(back)), (kinds, kinds))
+        self.assertNotEqual(left.state(), right.state())
+        return (ahead, left), (back, right)
+
+    def test_swap_of_two_starts_needs_a_run(self):
+        run = self.two_takers(Plan([True], 3, 2))
+        (ahead, _), (back, _) = self.check_orders_differ(run, (0, 0), (1, 2), "SS")
+        self.assertEqual(ahead[0, 0], (STARTED, 0, 0, 0, 0, 0))
+        self.assertEqual(back[0, 0], (STARTED, 0, 0, 1, 1, 0))
+
+    def test_swap_of_two_finishes_needs_a_run(self):
+        # Tokens 2 and 3 run pipe 0, and each has a waiter: the events are the
+        # same, but not the ready queue.
+        run = self.two_takers(Plan([True], 3, 4, [(0, [2]), (1, [3])]))
+        self.assertEqual([run.choose(0, 0)[3], run.choose(1, 2)[3]], [2, 3])
+        (ahead, left), (back, right) = self.check_orders_differ(run, (0, 0), (1, 2), "FF")
+        self.assertEqual(ahead, back)
+        self.assertEqual((list(left.tables.ready), list(right.tables.ready)), ([0, 1], [1, 0]))
+
+    def test_swap_of_start_and_finish_needs_a_run(self):
+        # Token 1 runs pipe 0, and 0 waits for it: the other line takes 0 or 2.
+        run = self.two_takers(Plan([True], 3, 3, [(0, [1])]))
+        run.choose(0, 0)
+        (ahead, _), (back, _) = self.check_orders_differ(run, (0, 0), (1, 2), "FS")
+        self.assertEqual(ahead[1, 2], (STARTED, 2, 0, 0, 1, 1))
+        self.assertEqual(back[1, 2], (STARTED, 2, 0, 2, 1, 1))
 
 
 class StoredVectors(unittest.TestCase):
