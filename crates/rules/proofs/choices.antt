@@ -1,5 +1,7 @@
 -- One choice, and a list of them. Reading order:
--- what a choice does in any machine: refused, it changes nothing;
+-- what an accepted choice has passed, in any machine;
+pub mod Accepting
+-- what a choice does there: refused, it changes nothing;
 pub mod Outcomes
 -- two choices in either order, in any machine;
 pub mod Swapping

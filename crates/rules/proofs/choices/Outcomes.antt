@@ -3,19 +3,19 @@
 use mathlib.Core.Path.{_≡_, refl, sym, ap, subst, _∙_}
 use mathlib.Core.Bool.{Bool, true, false}
 use mathlib.Core.List.{List}
-use Prim.Native.Nat.{ℕ, suc, _<_}
+use Prim.Native.Nat.{ℕ, suc}
 use lib.Dec.{ltb, eqb}
 use lib.ListN.{getD, set}
-use borrow.Author.Tests.{eqb-true, eqb-false, lt-ltb}
+use borrow.Author.Tests.{eqb-true, eqb-false}
 use Rattle.vocabulary.specs.declared.Slot.{Slot}
-use Rattle.rules.specs.Lists.{if, must}
+use Rattle.rules.specs.Lists.{if}
 use Rattle.rules.specs.Sources.{Source, Taken, Spoiled, Nothing, Took, Released, Broken, Passed}
 use Rattle.rules.specs.RunState.{Machine, runs, putSlot, slotOf, counterAt, counterOf, isSerial, full}
 use Rattle.rules.specs.Ranges.{sound}
 use Rattle.rules.specs.Choices.{Answer, Started, Finished, Stopped, Refused, Chosen, refuse, withPlace, next, moved, fall, filled, atWork, ended}
 use Rattle.rules.specs.Choices.{startFirst, startLater, start, settle, finishWith, finishFirst, finish, move, choose}
 use Rattle.rules.specs.WholeRuns.{Accepted}
-use Rattle.rules.proofs.lists.Tests.{lower, upper, below, holds, fails, see, never}
+use Rattle.rules.proofs.lists.Tests.{never}
 use Rattle.rules.proofs.lists.SlotRows.{put-own}
 use Rattle.rules.proofs.choices.Answers.{started-accepted, finished-accepted, stopped-accepted}
 
@@ -54,10 +54,9 @@ module _ {X : Type 0} (m : Machine X) (l : ℕ) (s : Slot) where
   unfolding countersBy
   counters-finish r c = rw r
 
-  -- what they must be for it: the one that is filled is 0, and the next line's that falls is not
-  pub record Able : Type 0 where
-    pub fills : s .running ≡ false → counterOf m l (s .pipe .0) ≡ 0
-    pub falls : s .running ≡ true → isSerial m (s .pipe .0) ≡ true → counterOf m (next (m .lines) l) (s .pipe .0) ≡ 0 → ⊥
+  -- where a finish lets the next line's counter fall, this is not 0
+  abbrev pub CanFall : Type 0
+  CanFall = s .running ≡ true → isSerial m (s .pipe .0) ≡ true → counterOf m (next (m .lines) l) (s .pipe .0) ≡ 0 → ⊥
 
 module _ {X : Type 0} (S : Source X) (m : Machine X) (w l : ℕ) (s : Slot) where
   -- the line, with slot s, waits at pipe 0, and the source gives this; it waits at a later pipe; it runs
@@ -122,7 +121,7 @@ module _ {X : Type 0} (S : Source X) (m : Machine X) (w l : ℕ) where
   -- the choice is refused, and the run is as it was; or it is accepted, and has this effect
   pub data Outcome (e : Effect X) : Chosen X → Type 0 where
     refused : (n : ℕ) → Outcome e (refuse m n)
-    made : Able m l (slotOf m l) → Accepted (e .answer) → Outcome e (did (countersBy m l (slotOf m l) (m .counters)) e)
+    made : CanFall m l (slotOf m l) → Accepted (e .answer) → Outcome e (did (countersBy m l (slotOf m l) (m .counters)) e)
 
   -- by the two outcomes of a test
   by : {e : Effect X} (b : Bool) {c d : Chosen X} → (b ≡ true → Outcome e c) → (b ≡ false → Outcome e d) → Outcome e (if b c d)
@@ -132,13 +131,13 @@ module _ {X : Type 0} (S : Source X) (m : Machine X) (w l : ℕ) where
   either : {e : Effect X} (b : Bool) {c d : Chosen X} → Outcome e c → Outcome e d → Outcome e (if b c d)
   either b p q = by b (λ e. p) (λ e. q)
 
-  made-with : {e : Effect X} (c : List ℕ) → countersBy m l (slotOf m l) (m .counters) ≡ c → Able m l (slotOf m l) → Accepted (e .answer) → Outcome e (did c e)
-  made-with {e} c q able ok = subst (λ c. Outcome e (did c e)) q (made able ok)
+  made-with : {e : Effect X} (c : List ℕ) → countersBy m l (slotOf m l) (m .counters) ≡ c → CanFall m l (slotOf m l) → Accepted (e .answer) → Outcome e (did c e)
+  made-with {e} c q falls ok = subst (λ c. Outcome e (did c e)) q (made falls ok)
 
-  -- a waiting line with counter 0
-  module _ (r : slotOf m l .running ≡ false) (z : counterOf m l (slotOf m l .pipe .0) ≡ 0) where
-    able-start : Able m l (slotOf m l)
-    able-start = record { fills = λ s. z; falls = λ s p n. never (sym s ∙ r) }
+  -- a waiting line
+  module _ (r : slotOf m l .running ≡ false) where
+    no-fall : CanFall m l (slotOf m l)
+    no-fall t s e = never (sym t ∙ r)
 
     module _ (first : slotOf m l .pipe .0 ≡ 0) where
       filled-first : countersBy m l (slotOf m l) (m .counters) ≡ filled m l 0
@@ -150,23 +149,23 @@ module _ {X : Type 0} (S : Source X) (m : Machine X) (w l : ℕ) where
       taken-outcome (Nothing x) =
           subst (λ v. Outcome (entered S m w l (slotOf m l) (Nothing x))
           (record { answer = Stopped l w; machine = withPlace m (filled m l 0) v (m .placed) true x }))
-          (put-own (m .slots) l) (made-with (filled m l 0) filled-first able-start stopped-accepted)
-      taken-outcome (Took t x) = either (ltb (m .placed) (m .tokens)) (made-with (filled m l 0) filled-first able-start started-accepted) (refused 14)
+          (put-own (m .slots) l) (made-with (filled m l 0) filled-first no-fall stopped-accepted)
+      taken-outcome (Took t x) = either (ltb (m .placed) (m .tokens)) (made-with (filled m l 0) filled-first no-fall started-accepted) (refused 14)
 
     start-outcome : Outcome (effect S m w l (slotOf m l)) (start S m w l)
     unfolding start startLater
     start-outcome = by (eqb (slotOf m l .pipe .0) 0)
         (λ e. rw (enters-effect S m w l (slotOf m l) r e) (taken-outcome (eqb-true (slotOf m l .pipe .0) 0 e) (S .take (m .source))))
         (λ e. rw (starts-effect S m w l (slotOf m l) r e)
-        (made-with (filled m l (slotOf m l .pipe .0)) (counters-start m l (slotOf m l) r (m .counters)) able-start started-accepted))
+        (made-with (filled m l (slotOf m l .pipe .0)) (counters-start m l (slotOf m l) r (m .counters)) no-fall started-accepted))
 
   -- a running line
   module _ (r : slotOf m l .running ≡ true) where
     settle-outcome : (c : List ℕ) (x : X) → countersBy m l (slotOf m l) (m .counters) ≡ fall c (counterAt l (next (m .pipes) (slotOf m l .pipe .0))) →
-        Able m l (slotOf m l) → Outcome (finished S m w l (slotOf m l) x) (settle S m l (slotOf m l) c x)
+        CanFall m l (slotOf m l) → Outcome (finished S m w l (slotOf m l) x) (settle S m l (slotOf m l) c x)
     unfolding settle
-    settle-outcome c x q able = either (eqb (getD c (counterAt l (next (m .pipes) (slotOf m l .pipe .0))) 0) 0) (refused 14)
-        (made-with _ q able finished-accepted)
+    settle-outcome c x q falls = either (eqb (getD c (counterAt l (next (m .pipes) (slotOf m l .pipe .0))) 0) 0) (refused 14)
+        (made-with _ q falls finished-accepted)
 
     falls-outcome : (x : X) → Outcome (finished S m w l (slotOf m l) x) (finishWith S m l (slotOf m l) x)
     unfolding finishWith
@@ -175,9 +174,9 @@ module _ {X : Type 0} (S : Source X) (m : Machine X) (w l : ℕ) where
         by (isSerial m (slotOf m l .pipe .0))
         (λ e. by (eqb (getD (m .counters) i 0) 0) (λ z. refused 14) (λ z.
         settle-outcome (fall (m .counters) i) x (counters-finish m l (slotOf m l) r (m .counters) ∙ rw e)
-        (record { fills = λ s. absurd (never (sym r ∙ s)); falls = λ s p. eqb-false (getD (m .counters) i 0) 0 z })))
+        (λ t s. eqb-false (getD (m .counters) i 0) 0 z)))
         (λ e. settle-outcome (m .counters) x (counters-finish m l (slotOf m l) r (m .counters) ∙ rw e)
-        (record { fills = λ s. absurd (never (sym r ∙ s)); falls = λ s p. absurd (never (sym p ∙ e)) }))
+        (λ t s. absurd (never (sym s ∙ e))))
 
     released-outcome : (o : Released X) → Outcome (finished S m w l (slotOf m l) (releasedFrom (m .source) o)) (finishFirst S m l (slotOf m l) o)
     unfolding finishFirst
@@ -194,9 +193,8 @@ module _ {X : Type 0} (S : Source X) (m : Machine X) (w l : ℕ) where
   unfolding move
   move-outcome = by (slotOf m l .running)
       (λ r. either (eqb (slotOf m l .worker .0) w) (finish-outcome r) (refused 26))
-      (λ r. by (eqb (counterOf m l (slotOf m l .pipe .0)) 0)
-      (λ z. either (atWork (m .slots) w (m .lines)) (refused 13) (start-outcome r (eqb-true (counterOf m l (slotOf m l .pipe .0)) 0 z)))
-      (λ z. refused 12))
+      (λ r. either (eqb (counterOf m l (slotOf m l .pipe .0)) 0)
+      (either (atWork (m .slots) w (m .lines)) (refused 13) (start-outcome r)) (refused 12))
 
   -- a choice
   pub choose-outcome : Outcome (effect S m w l (slotOf m l)) (choose S m w l)
@@ -210,7 +208,7 @@ module _ {X : Type 0} (S : Source X) (m : Machine X) (w l : ℕ) where
   -- so one that is refused changes nothing,
   unchanged : {e : Effect X} {c : Chosen X} → Outcome e c → (n : ℕ) → c .answer ≡ Refused n → c .machine ≡ m
   unchanged (refused k) n q = refl
-  unchanged (made able ok) n q = absurd (ok n q)
+  unchanged (made falls ok) n q = absurd (ok n q)
 
   pub refused-unchanged : (n : ℕ) → choose S m w l .answer ≡ Refused n → choose S m w l .machine ≡ m
   refused-unchanged = unchanged choose-outcome
@@ -218,34 +216,17 @@ module _ {X : Type 0} (S : Source X) (m : Machine X) (w l : ℕ) where
   -- none changes W,
   same-workers : {e : Effect X} {c : Chosen X} → Outcome e c → c .machine .workers ≡ m .workers
   same-workers (refused n) = refl
-  same-workers (made able ok) = refl
+  same-workers (made falls ok) = refl
 
   pub workers-kept : choose S m w l .machine .workers ≡ m .workers
   workers-kept = same-workers choose-outcome
 
   -- and one that is accepted has its effect
   accepted : {e : Effect X} {c : Chosen X} → Outcome e c → Accepted (c .answer) →
-      Able m l (slotOf m l) × (c ≡ did (countersBy m l (slotOf m l) (m .counters)) e)
+      CanFall m l (slotOf m l) × (c ≡ did (countersBy m l (slotOf m l) (m .counters)) e)
   accepted (refused n) ok = absurd (ok n refl)
-  accepted (made able event) ok = (able, refl)
+  accepted (made falls event) ok = (falls, refl)
 
   pub accepted-choice : Accepted (choose S m w l .answer) →
-      Able m l (slotOf m l) × (choose S m w l ≡ did (countersBy m l (slotOf m l) (m .counters)) (effect S m w l (slotOf m l)))
+      CanFall m l (slotOf m l) × (choose S m w l ≡ did (countersBy m l (slotOf m l) (m .counters)) (effect S m w l (slotOf m l)))
   accepted-choice = accepted choose-outcome
-
-  -- what is not answered by 14 has every number in range; what is accepted names a line below L and a worker below W
-  pub unspoiled-sound : (choose S m w l .answer ≡ Refused 14 → ⊥) → sound S m ≡ true
-  unfolding choose
-  unspoiled-sound n = elim (see (sound S m)) [ holds s ↦ s | fails s ↦ absurd (n (rw s)) ]
-
-  module _ (ok : Accepted (choose S m w l .answer)) where
-    pub accepted-line : l < m .lines
-    unfolding choose
-    accepted-line = elim (below l (m .lines)) [ lower h t ↦ h | upper h t ↦ absurd (ok 10 (rw (unspoiled-sound (ok 14), t))) ]
-
-    pub accepted-worker : w < m .workers
-    unfolding choose
-    accepted-worker = elim (below w (m .workers)) [
-      | lower h t ↦ h
-      | upper h t ↦ absurd (ok 26 (rw (unspoiled-sound (ok 14), lt-ltb l (m .lines) accepted-line, t)))
-    ]

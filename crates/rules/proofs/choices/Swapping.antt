@@ -12,15 +12,15 @@ use Rattle.vocabulary.specs.declared.Slot.{Slot}
 use Rattle.vocabulary.specs.declared.Slots.{Slots}
 use Rattle.rules.specs.Lists.{Every}
 use Rattle.rules.specs.Sources.{Source}
-use Rattle.rules.specs.RunState.{Machine, putSlot, slotOf, counterAt, isSerial}
-use Rattle.rules.specs.Ranges.{sound}
+use Rattle.rules.specs.RunState.{Machine, putSlot, slotOf, counterAt, counterOf, isSerial}
 use Rattle.rules.specs.Choices.{Choice, Chosen, withPlace, next, fall, chooseBy, answers, follow}
 use Rattle.rules.specs.WholeRuns.{Accepted}
 use Rattle.rules.specs.Swapping.{Swapped}
 use Rattle.rules.proofs.lists.Tests.{same, other, sameAs, by-test}
 use Rattle.rules.proofs.lists.SlotRows.{put-other, put-swap}
 use Rattle.rules.proofs.standing.Finish.{next-lt}
-use Rattle.rules.proofs.choices.Outcomes.{Effect, effect, fallIf, countersBy, counters-start, counters-finish, Able, did, accepted-choice, unspoiled-sound, accepted-line}
+use Rattle.rules.proofs.choices.Outcomes.{Effect, effect, fallIf, countersBy, counters-start, counters-finish, CanFall, did, accepted-choice}
+use Rattle.rules.proofs.choices.Accepting.{is-sound, line-below, counter-zero}
 use Rattle.rules.proofs.choices.SoundMachines.{pipes-most, pipe-in}
 use Rattle.rules.proofs.choices.Outcomes.{entered, starts-effect, finishes-effect}
 
@@ -44,51 +44,57 @@ unfolding fall
 fill-fall true c i v j n = rw (getD-set-other c i j v 0 (λ e. n refl (sym e))) (set-comm c i j v _ (n refl))
 fill-fall false c i v j n = refl
 
+-- what holds of a line, with slot s, that may move
+record MayMove {X : Type 0} (m : Machine X) (l : ℕ) (s : Slot) : Type 0 where
+  at : s .pipe .0 < m .pipes
+  fills : s .running ≡ false → counterOf m l (s .pipe .0) ≡ 0
+  falls : CanFall m l s
+
 module _ {X : Type 0} (m : Machine X) (most : m .pipes ≤ 16) where
-  -- the counters after two lines' choices: two fills;
-  two-fills : (a b : ℕ) → (a ≡ b → ⊥) → (s t : Slot) → s .pipe .0 < m .pipes → t .pipe .0 < m .pipes → s .running ≡ false → t .running ≡ false →
-      (c : List ℕ) → countersBy m b t (countersBy m a s c) ≡ countersBy m a s (countersBy m b t c)
-  two-fills a b apart s t s-in t-in r q c = rw (counters-start m a s r c, counters-start m b t q c, counters-start m b t q _, counters-start m a s r _)
-      (set-comm c (counterAt a (s .pipe .0)) (counterAt b (t .pipe .0)) _ _ (λ e. omega arith))
+  -- the counters after two lines' choices do not depend on their order
+  module _ (a b : ℕ) (apart : a ≡ b → ⊥) (s t : Slot) (x : MayMove m a s) (y : MayMove m b t) (c : List ℕ) where
+    abbrev Swaps : Type 0
+    Swaps = countersBy m b t (countersBy m a s c) ≡ countersBy m a s (countersBy m b t c)
 
-  -- a fill and falls: the counter that is 0 is none of those that fall;
-  fill-falls : (a b : ℕ) → (a ≡ b → ⊥) → (s t : Slot) → s .pipe .0 < m .pipes → t .pipe .0 < m .pipes → s .running ≡ false → t .running ≡ true →
-      Able m a s → Able m b t → (c : List ℕ) → countersBy m b t (countersBy m a s c) ≡ countersBy m a s (countersBy m b t c)
-  fill-falls a b apart s t s-in t-in r q x y c =
-      let i : ℕ = counterAt a (s .pipe .0) in
-      let n : ℕ = next (m .pipes) (t .pipe .0) in
-      let next-in : n < m .pipes = next-lt (m .pipes) (t .pipe .0) t-in in
-      rw (counters-start m a s r c, counters-finish m b t q (set c i _), counters-finish m b t q c, counters-start m a s r _)
-      (ap (λ d. fall d (counterAt b n)) (fill-fall (isSerial m (t .pipe .0)) c i _ (counterAt (next (m .lines) b) (t .pipe .0))
-      (λ serial e. y .falls q serial (ap (λ k. getD (m .counters) k 0) (sym e) ∙ x .fills r)))
-      ∙ fill-fall true _ i _ (counterAt b n) (λ u e. omega arith))
+    -- two fills;
+    two-fills : s .running ≡ false → t .running ≡ false → Swaps
+    two-fills r q = rw (counters-start m a s r c, counters-start m b t q c, counters-start m b t q _, counters-start m a s r _)
+        (set-comm c (counterAt a (s .pipe .0)) (counterAt b (t .pipe .0)) _ _ (λ e. omega (arith, x .at, y .at)))
 
-  -- falls
-  all-falls : (a b : ℕ) (s t : Slot) → s .running ≡ true → t .running ≡ true →
-      (c : List ℕ) → countersBy m b t (countersBy m a s c) ≡ countersBy m a s (countersBy m b t c)
-  all-falls a b s t r q c =
-      let u : Bool = isSerial m (s .pipe .0) in
-      let v : Bool = isSerial m (t .pipe .0) in
-      let i : ℕ = counterAt (next (m .lines) a) (s .pipe .0) in
-      let j : ℕ = counterAt a (next (m .pipes) (s .pipe .0)) in
-      let k : ℕ = counterAt (next (m .lines) b) (t .pipe .0) in
-      let n : ℕ = counterAt b (next (m .pipes) (t .pipe .0)) in
-      rw (counters-finish m a s r c, counters-finish m b t q c, counters-finish m b t q _, counters-finish m a s r _)
-      (ap (λ d. fall d n) (fall-if-swap true v (fallIf u c i) j k)
-      ∙ fall-swap (fallIf v (fallIf u c i) k) j n
-      ∙ ap (λ d. fall (fall d n) j) (fall-if-swap u v c i k)
-      ∙ ap (λ d. fall d j) (fall-if-swap u true (fallIf v c k) i n))
+    -- a fill and falls: the counter that is filled was 0, so it is none of those that fall;
+    fill-falls : s .running ≡ false → t .running ≡ true → Swaps
+    fill-falls r q =
+        let i : ℕ = counterAt a (s .pipe .0) in
+        let n : ℕ = next (m .pipes) (t .pipe .0) in
+        rw (counters-start m a s r c, counters-finish m b t q (set c i _), counters-finish m b t q c, counters-start m a s r _)
+        (ap (λ d. fall d (counterAt b n)) (fill-fall (isSerial m (t .pipe .0)) c i _ (counterAt (next (m .lines) b) (t .pipe .0))
+        (λ serial e. y .falls q serial (ap (λ k. getD (m .counters) k 0) (sym e) ∙ x .fills r)))
+        ∙ fill-fall true _ i _ (counterAt b n) (λ u e. omega (arith, x .at, next-lt (m .pipes) (t .pipe .0) (y .at))))
 
-  -- so each two, in either order
-  counters-swap : (a b : ℕ) → (a ≡ b → ⊥) → (s t : Slot) → s .pipe .0 < m .pipes → t .pipe .0 < m .pipes → Able m a s → Able m b t → (c : List ℕ) →
+    -- falls
+    all-falls : s .running ≡ true → t .running ≡ true → Swaps
+    all-falls r q =
+        let u : Bool = isSerial m (s .pipe .0) in
+        let v : Bool = isSerial m (t .pipe .0) in
+        let i : ℕ = counterAt (next (m .lines) a) (s .pipe .0) in
+        let j : ℕ = counterAt a (next (m .pipes) (s .pipe .0)) in
+        let k : ℕ = counterAt (next (m .lines) b) (t .pipe .0) in
+        let n : ℕ = counterAt b (next (m .pipes) (t .pipe .0)) in
+        rw (counters-finish m a s r c, counters-finish m b t q c, counters-finish m b t q _, counters-finish m a s r _)
+        (ap (λ d. fall d n) (fall-if-swap true v (fallIf u c i) j k)
+        ∙ fall-swap (fallIf v (fallIf u c i) k) j n
+        ∙ ap (λ d. fall (fall d n) j) (fall-if-swap u v c i k)
+        ∙ ap (λ d. fall d j) (fall-if-swap u true (fallIf v c k) i n))
+
+  counters-swap : (a b : ℕ) → (a ≡ b → ⊥) → (s t : Slot) → MayMove m a s → MayMove m b t → (c : List ℕ) →
       countersBy m b t (countersBy m a s c) ≡ countersBy m a s (countersBy m b t c)
-  counters-swap a b apart s t s-in t-in x y c = by-test (s .running)
+  counters-swap a b apart s t x y c = by-test (s .running)
       (λ r. by-test (t .running)
-      (λ q. all-falls a b s t r q c)
-      (λ q. sym (fill-falls b a (λ e. apart (sym e)) t s t-in s-in q r y x c)))
+      (λ q. all-falls a b apart s t x y c r q)
+      (λ q. sym (fill-falls b a (λ e. apart (sym e)) t s y x c q r)))
       (λ r. by-test (t .running)
-      (λ q. fill-falls a b apart s t s-in t-in r q x y c)
-      (λ q. two-fills a b apart s t s-in t-in r q c))
+      (λ q. fill-falls a b apart s t x y c r q)
+      (λ q. two-fills a b apart s t x y c r q))
 
 module _ {X : Type 0} (S : Source X) (m : Machine X) where
   -- past pipe 0 a choice leaves the places, the mark and the source as they are, whatever these are
@@ -104,6 +110,14 @@ module _ {X : Type 0} (S : Source X) (m : Machine X) where
       chooseBy S n c ≡ did S n (c .worker) (c .line) (countersBy n (c .line) s (n .counters)) (effect S n (c .worker) (c .line) s)
   with-slot n c s e ok = subst (λ s. chooseBy S n c ≡ did S n (c .worker) (c .line) (countersBy n (c .line) s (n .counters)) (effect S n (c .worker) (c .line) s)) e
       (accepted-choice S n (c .worker) (c .line) ok .1)
+
+  -- a line whose choice is accepted may move
+  may-move : (c : Choice) → Accepted (chooseBy S m c .answer) → MayMove m (c .line) (slotOf m (c .line))
+  may-move c ok = record {
+    at = pipe-in S m (is-sound S m (c .worker) (c .line) ok) (c .line) (line-below S m (c .worker) (c .line) ok);
+    fills = counter-zero S m (c .worker) (c .line) ok;
+    falls = accepted-choice S m (c .worker) (c .line) ok .0;
+  }
 
   module _ (a b : Choice) (apart : a .line ≡ b .line → ⊥) (one-way : Every Accepted (answers S m (a ∷ b ∷ []))) (other-way : Every Accepted (answers S m (b ∷ a ∷ []))) where
     -- the two lines' slots, and what their choices make
@@ -152,16 +166,10 @@ module _ {X : Type 0} (S : Source X) (m : Machine X) where
           ∙ ap (did S after-b (a .worker) (a .line) (countersBy m (a .line) s (after-b .counters)))
           (past (a .worker) (a .line) s later (after-b .counters) (after-b .slots) (y .placed) (y .stopped) (y .source))
 
-      -- the counters: those of two lines, of a machine in range
       same-counters : countersBy m (b .line) t (after-a .counters) ≡ countersBy m (a .line) s (after-b .counters)
       unfolding answers
-      same-counters =
-          let ranges : sound S m ≡ true = unspoiled-sound S m (a .worker) (a .line) (one-way .0 14) in
-          let a-in : a .line < m .lines = accepted-line S m (a .worker) (a .line) (one-way .0) in
-          let b-in : b .line < m .lines = accepted-line S m (b .worker) (b .line) (other-way .0) in
-          counters-swap m (pipes-most S m ranges) (a .line) (b .line) apart s t
-          (pipe-in S m ranges (a .line) a-in) (pipe-in S m ranges (b .line) b-in)
-          (accepted-choice S m (a .worker) (a .line) (one-way .0) .0) (accepted-choice S m (b .worker) (b .line) (other-way .0) .0) (m .counters)
+      same-counters = counters-swap m (pipes-most S m (is-sound S m (a .worker) (a .line) (one-way .0))) (a .line) (b .line) apart s t
+          (may-move a (one-way .0)) (may-move b (other-way .0)) (m .counters)
 
       later-swapped : Swapped S m a b
       unfolding follow

@@ -4,15 +4,15 @@ use mathlib.Core.Bool.{true, false}
 use Prim.Native.Nat.{ℕ, zero, suc, _+_, _≤_, _<_}
 use native.Mathlib.Omega.{arith}
 use lib.Dec.{ltb, eqb}
-use borrow.Author.Tests.{eqb-true, ltb-true, lt-ltb, eq-eqb, ne-eqb}
+use borrow.Author.Tests.{eq-eqb, ne-eqb}
 use Rattle.vocabulary.specs.declared.Slots.{Slots}
-use Rattle.rules.specs.RunState.{Machine, slotAt, slotOf, counterOf}
+use Rattle.rules.specs.RunState.{Machine, slotAt, slotOf}
 use Rattle.rules.specs.Sources.{Source, Taken, Spoiled, Nothing, Took}
-use Rattle.rules.specs.Ranges.{sound}
-use Rattle.rules.specs.Choices.{runBy, atWork, ended, startFirst, startLater, start, move, choose}
+use Rattle.rules.specs.Choices.{runBy, atWork, startFirst, startLater, start, choose}
 use Rattle.rules.specs.Workers.{firstIdle, workerFor, withoutWorker}
 use Rattle.rules.specs.WholeRuns.{Accepted}
 use Rattle.rules.proofs.lists.Tests.{by-test, same, other, sameAs, holds, fails, see, never, if-same}
+use Rattle.rules.proofs.choices.Accepting.{worker-below, own, is-idle, starts-too}
 
 -- a worker that runs a line is at work
 pub at-work : (s : Slots) (w n j : ℕ) → j < n → slotAt s j .running ≡ true → slotAt s j .worker .0 ≡ w → atWork s w n ≡ true
@@ -87,57 +87,16 @@ module _ {X : Type 0} (S : Source X) (m : Machine X) (l : ℕ) where
   start-same v w = by-test (eqb (slotOf m l .pipe .0) 0) (λ e. rw e (first-same v w (S .take (m .source)))) (λ e. rw e)
 
   module _ (w : ℕ) (accepts : Accepted (choose S m w l .answer)) where
-    -- what an accepted choice has passed
-    is-sound : sound S m ≡ true
-    unfolding choose
-    is-sound = by-test (sound S m) (λ e. e) (λ e. absurd (accepts 14 (rw e)))
-
-    is-line : ltb l (m .lines) ≡ true
-    unfolding choose
-    is-line = by-test (ltb l (m .lines)) (λ e. e) (λ e. absurd (accepts 10 (rw (is-sound, e))))
-
-    is-worker : ltb w (m .workers) ≡ true
-    unfolding choose
-    is-worker = by-test (ltb w (m .workers)) (λ e. e) (λ e. absurd (accepts 26 (rw (is-sound, is-line, e))))
-
-    is-open : ended m ≡ false
-    unfolding choose
-    is-open = by-test (ended m) (λ e. absurd (accepts 11 (rw (is-sound, is-line, is-worker, e)))) (λ e. e)
-
-    -- a finish is by the line's own worker
-    own : slotOf m l .running ≡ true → slotOf m l .worker .0 ≡ w
-    unfolding choose move
-    own r = by-test (eqb (slotOf m l .worker .0) w)
-        (λ e. eqb-true (slotOf m l .worker .0) w e)
-        (λ e. absurd (accepts 26 (rw (is-sound, is-line, is-worker, is-open, r, e))))
-
-    module _ (r : slotOf m l .running ≡ false) where
-      is-due : eqb (counterOf m l (slotOf m l .pipe .0)) 0 ≡ true
-      unfolding choose move
-      is-due = by-test (eqb (counterOf m l (slotOf m l .pipe .0)) 0)
-          (λ e. e)
-          (λ e. absurd (accepts 12 (rw (is-sound, is-line, is-worker, is-open, r, e))))
-
-      is-idle : atWork (m .slots) w (m .lines) ≡ false
-      unfolding choose move
-      is-idle = by-test (atWork (m .slots) w (m .lines))
-          (λ e. absurd (accepts 13 (rw (is-sound, is-line, is-worker, is-open, r, is-due, e))))
-          (λ e. e)
-
-      -- a start by an idle worker below W
-      starts : (v : ℕ) → v < m .workers → atWork (m .slots) v (m .lines) ≡ false → choose S m v l ≡ start S m v l
-      unfolding choose move
-      starts v h o = rw (is-sound, is-line, lt-ltb v (m .workers) h, is-open, r, is-due, o)
-
-      waits-same : withoutWorker (choose S m (workerFor m l) l .answer) ≡ withoutWorker (choose S m w l .answer)
-      waits-same =
-          let h : w < m .workers = ltb-true w (m .workers) is-worker in
-          let v : ℕ = firstIdle (m .slots) (m .lines) 0 (m .workers) in
-          let f : FirstIdle (m .slots) (m .lines) 0 (m .workers) v = first-idle (m .slots) (m .lines) (m .workers) 0 w (omega arith) (omega arith) is-idle in
-          rw (worker-waits r, starts v (omega (arith, f .below)) (f .idle), starts w h is-idle) (start-same v w)
+    waits-same : slotOf m l .running ≡ false → withoutWorker (choose S m (workerFor m l) l .answer) ≡ withoutWorker (choose S m w l .answer)
+    waits-same r =
+        let idle : atWork (m .slots) w (m .lines) ≡ false = is-idle S m w l accepts r in
+        let known : w < m .workers = worker-below S m w l accepts in
+        let v : ℕ = firstIdle (m .slots) (m .lines) 0 (m .workers) in
+        let f : FirstIdle (m .slots) (m .lines) 0 (m .workers) v = first-idle (m .slots) (m .lines) (m .workers) 0 w (omega arith) (omega arith) idle in
+        rw (worker-waits r, starts-too S m w l accepts r v (omega (arith, f .below)) (f .idle), starts-too S m w l accepts r w known idle) (start-same v w)
 
     -- so the choice by the line's worker has the same event, but for the worker
     pub practice-same : withoutWorker (choose S m (workerFor m l) l .answer) ≡ withoutWorker (choose S m w l .answer)
     practice-same = by-test (slotOf m l .running)
-        (λ r. ap (λ v. withoutWorker (choose S m v l .answer)) (worker-runs r ∙ own r))
+        (λ r. ap (λ v. withoutWorker (choose S m v l .answer)) (worker-runs r ∙ own S m w l accepts r))
         (λ r. waits-same r)

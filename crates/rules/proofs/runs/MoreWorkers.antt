@@ -18,7 +18,8 @@ use Rattle.rules.proofs.lists.EveryLaws.{every-weaken}
 use Rattle.rules.proofs.lists.Holding.{first-holds, rest-hold}
 use Rattle.rules.proofs.invariant.Sound.{every-holds, within-range}
 use Rattle.rules.proofs.choices.SoundMachines.{slots-ok, slot-ok, workers-ok, workers-some}
-use Rattle.rules.proofs.choices.Outcomes.{unspoiled-sound, accepted-worker, workers-kept}
+use Rattle.rules.proofs.choices.Accepting.{unspoiled-sound, worker-below}
+use Rattle.rules.proofs.choices.Outcomes.{workers-kept}
 use Rattle.rules.proofs.sources.Following.{choose-as, itself}
 use Rattle.rules.proofs.runs.AcceptedAlone.{events-accepted, alone-told, alone-left}
 
@@ -35,7 +36,7 @@ accepted-known : {X : Type 0} (S : Source X) (m : Machine X) (cs : List Choice) 
 unfolding answers
 accepted-known S m [] ok = tt
 accepted-known S m (c ∷ cs) ok = (
-  accepted-worker S m (c .worker) (c .line) (ok .0),
+  worker-below S m (c .worker) (c .line) (ok .0),
   rw (workers-kept S m (c .worker) (c .line)) at (accepted-known S (chooseBy S m c .machine) cs (ok .1)),
 )
 
@@ -70,38 +71,21 @@ module _ {X : Type 0} (S : Source X) (large : ℕ) (most : large ≤ 32) where
         choose-as (itself S) large m w l (sound-more ranges ∙ sym ranges)
         (lt-ltb w large (omega arith) ∙ sym (lt-ltb w (m .workers) known)) unspoiled
 
-  -- lists of choices
-  more-told : (m : Machine X) → m .workers ≤ large → (cs : List Choice) → Every (Known (m .workers)) cs → Every Unspoiled (answers S m cs) →
-      answers S (withWorkers large m) cs ≡ answers S m cs
-  unfolding answers
-  more-told m more [] known ok = refl
-  more-told m more (c ∷ cs) known ok =
-      let kept = workers-kept S m (c .worker) (c .line) in
-      rw (
-        choose-more m more (c .worker) (c .line) (known .0) (ok .0),
-        more-told (chooseBy S m c .machine) (omega arith) cs (rw kept (known .1)) (ok .1),
-      )
-
-  more-left : (m : Machine X) → m .workers ≤ large → (cs : List Choice) → Every (Known (m .workers)) cs → Every Unspoiled (answers S m cs) →
-      follow S (withWorkers large m) cs ≡ withWorkers large (follow S m cs)
+  -- lists of choices, from any machine, also one that no run leaves
+  pub alike : (m : Machine X) → m .workers ≤ large → (cs : List Choice) → Every (Known (m .workers)) cs → Every Unspoiled (answers S m cs) →
+      AnsweredAlike S m (withWorkers large m) cs
   unfolding answers follow
-  more-left m more [] known ok = refl
-  more-left m more (c ∷ cs) known ok =
+  alike m more [] known ok = record { told = refl; left = refl }
+  alike m more (c ∷ cs) known ok =
       let kept = workers-kept S m (c .worker) (c .line) in
-      rw (
-        choose-more m more (c .worker) (c .line) (known .0) (ok .0),
-        more-left (chooseBy S m c .machine) (omega arith) cs (rw kept (known .1)) (ok .1),
-      )
+      let one = choose-more m more (c .worker) (c .line) (known .0) (ok .0) in
+      let rest = alike (chooseBy S m c .machine) (omega arith) cs (rw kept (known .1)) (ok .1) in
+      record { told = rw (one, rest .told); left = rw one (rest .left) }
 
-  -- from any machine, also one that no run leaves
-  module _ (m : Machine X) (more : m .workers ≤ large) (cs : List Choice) where
-    pub alike : Every (Known (m .workers)) cs → Every Unspoiled (answers S m cs) → AnsweredAlike S m (withWorkers large m) cs
-    alike known ok = record { told = more-told m more cs known ok; left = more-left m more cs known ok }
-
-    pub reused : Every Accepted (answers S m cs) → Reused S m (withWorkers large m) cs
-    reused ok =
-        let same = alike (accepted-known S m cs ok) (every-weaken Accepted Unspoiled (λ a event. event 14) (answers S m cs) ok) in
-        record { accepted = rw (same .told) ok; events = same .told; left = same .left }
+  pub reused : (m : Machine X) → m .workers ≤ large → (cs : List Choice) → Every Accepted (answers S m cs) → Reused S m (withWorkers large m) cs
+  reused m more cs ok =
+      let same = alike m more cs (accepted-known S m cs ok) (every-weaken Accepted Unspoiled (λ a event. event 14) (answers S m cs) ok) in
+      record { accepted = rw (same .told) ok; events = same .told; left = same .left }
 
   pub accepted-reused : (m : Machine X) → m .workers ≤ large → (cs : List Choice) → AcceptedReused S m (withWorkers large m) cs
   accepted-reused m more cs =

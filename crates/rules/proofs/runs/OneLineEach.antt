@@ -1,21 +1,17 @@
 -- In a run no worker runs two lines at a time.
-use mathlib.Core.Path.{_≡_, sym, ap, subst, _∙_}
+use mathlib.Core.Path.{_≡_, refl, sym, ap, subst, _∙_}
 use mathlib.Core.Bool.{true, false}
 use mathlib.Core.List.{List, [], _∷_}
-use Prim.Native.Nat.{ℕ, suc, _+_, _*_, _≤_, _<_}
+use Prim.Native.Nat.{ℕ, suc, _≤_, _<_}
 use native.Mathlib.Omega.{arith}
-use lib.Dec.{ltb, eqb}
-use lib.ListN.{getD}
-use borrow.Author.Tests.{ltb-true}
+use lib.Dec.{eqb}
 use Rattle.vocabulary.specs.declared.Slot.{Slot}
 use Rattle.vocabulary.specs.declared.Slots.{Slots}
-use Rattle.rules.specs.RunState.{Pipeline, Machine, runs, allIdle, slotAt, putSlot, slotOf, counterOf, isSerial}
-use Rattle.rules.specs.Sources.{Source, Taken, Spoiled, Nothing, Took, Released, Broken, Passed}
-use Rattle.rules.specs.Ranges.{sound}
-use Rattle.rules.specs.Choices.{Choice, atWork, moved, next, fall, ended, opened, follow}
-use Rattle.rules.specs.Choices.{startFirst, startLater, start, settle, finishWith, finishFirst, finish, move, choose}
+use Rattle.rules.specs.RunState.{Pipeline, Machine, runs, allIdle, slotAt, putSlot, slotOf}
+use Rattle.rules.specs.Sources.{Source, Taken, Spoiled, Nothing, Took}
+use Rattle.rules.specs.Choices.{Choice, Chosen, atWork, moved, opened, choose, follow}
 use Rattle.rules.specs.Workers.{OneLineEach}
-use Rattle.rules.specs.WholeRuns.{PipelineInRange, WorkersInRange, Sheet, end}
+use Rattle.rules.specs.WholeRuns.{PipelineInRange, WorkersInRange, Sheet, Accepted, end}
 use Rattle.rules.proofs.lists.Tests.{by-test, same, other, sameAs, never}
 use Rattle.rules.proofs.lists.SlotRows.{Sized, put-same, put-other, each-idle}
 use Rattle.rules.proofs.standing.Standing.{Standing}
@@ -23,65 +19,34 @@ use Rattle.rules.proofs.invariant.Invariant.{Allowed, State, whole, Inv
 use Rattle.rules.proofs.choices.Workers.{at-work}
 use Rattle.rules.proofs.choices.Opening.{at-opening, opening, opening-inv}
 use Rattle.rules.proofs.choices.Stands.{Stands, stands}
+use Rattle.rules.proofs.choices.Accepting.{line-below, is-idle}
+use Rattle.rules.proofs.choices.Outcomes.{entered, effect, Outcome, refused, made, choose-outcome}
+use Rattle.rules.proofs.choices.Outcomes.{enters-effect, starts-effect, releases-effect, finishes-effect}
 
--- what holds of the slots before a choice, and after a start and a finish, holds after the choice
-module _ {X : Type 0} (S : Source X) (m : Machine X) (w l : ℕ) (P : Slots → Type 0) (held : P (m .slots))
-    (rests : l < m .lines → (s : Slot) → P (putSlot (m .slots) l (moved (m .pipes) s)))
-    (begins : l < m .lines → atWork (m .slots) w (m .lines) ≡ false → (p t k : ℕ) → P (putSlot (m .slots) l (runs p t k w))) where
-  module _ (h : l < m .lines) where
-    module _ (o : atWork (m .slots) w (m .lines) ≡ false) where
-      first-slots : (x : Taken X) → P (startFirst S m w l x .machine .slots)
-      unfolding startFirst
-      first-slots Spoiled = held
-      first-slots (Nothing x) = held
-      first-slots (Took t x) = by-test (ltb (m .placed) (m .tokens)) (λ e. rw e (begins h o 0 t (m .placed))) (λ e. rw e held)
+-- a line that has moved on does not run
+moved-rests : (pipes : ℕ) (s : Slot) → moved pipes s .running ≡ false
+moved-rests pipes s = by-test (eqb (suc (s .pipe .0)) pipes) (λ e. rw e) (λ e. rw e)
 
-      start-slots : P (start S m w l .machine .slots)
-      unfolding start startLater
-      start-slots = by-test (eqb (slotOf m l .pipe .0) 0)
-          (λ e. rw e (first-slots (S .take (m .source))))
-          (λ e. rw e (begins h o (slotOf m l .pipe .0) (slotOf m l .token .0) (slotOf m l .place .0)))
+-- what a choice makes of its line's slot s: one that does not run, or one that the worker runs, where the line waited
+module _ {X : Type 0} (S : Source X) (m : Machine X) (w l : ℕ) (s : Slot) where
+  data Becomes (v : Slot) : Type 0 where
+    waits : v .running ≡ false → Becomes v
+    begins : s .running ≡ false → v .worker .0 ≡ w → Becomes v
 
-    settle-slots : (s : Slot) (c : List ℕ) (x : X) → P (settle S m l s c x .machine .slots)
-    unfolding settle
-    settle-slots s c x = by-test (eqb (getD c (16 * l + next (m .pipes) (s .pipe .0)) 0) 0) (λ e. rw e held) (λ e. rw e (rests h s))
+  taken-becomes : s .running ≡ false → (o : Taken X) → Becomes (entered S m w l s o .slot)
+  unfolding entered
+  taken-becomes r Spoiled = waits r
+  taken-becomes r (Nothing x) = waits r
+  taken-becomes r (Took t x) = begins r refl
 
-    with-slots : (s : Slot) (x : X) → P (finishWith S m l s x .machine .slots)
-    unfolding finishWith
-    with-slots s x = by-test (isSerial m (s .pipe .0))
-        (λ e. rw e (by-test (eqb (getD (m .counters) (16 * next (m .lines) l + s .pipe .0) 0) 0)
-        (λ z. rw z held)
-        (λ z. rw z (settle-slots s (fall (m .counters) (16 * next (m .lines) l + s .pipe .0)) x))))
-        (λ e. rw e (settle-slots s (m .counters) x))
-
-    told-slots : (s : Slot) (x : Released X) → P (finishFirst S m l s x .machine .slots)
-    unfolding finishFirst
-    told-slots s Broken = held
-    told-slots s (Passed x) = with-slots s x
-
-    finish-slots : P (finish S m l .machine .slots)
-    unfolding finish
-    finish-slots = by-test (eqb (slotOf m l .pipe .0) 0)
-        (λ e. rw e (told-slots (slotOf m l) (S .release (slotOf m l .token .0) (m .source))))
-        (λ e. rw e (with-slots (slotOf m l) (m .source)))
-
-    move-slots : P (move S m w l .machine .slots)
-    unfolding move
-    move-slots = by-test (slotOf m l .running)
-        (λ e. rw e (by-test (eqb (slotOf m l .worker .0) w) (λ o. rw o finish-slots) (λ o. rw o held)))
-        (λ e. rw e (by-test (eqb (counterOf m l (slotOf m l .pipe .0)) 0)
-        (λ c. rw c (by-test (atWork (m .slots) w (m .lines)) (λ o. rw o held) (λ o. rw o (start-slots o))))
-        (λ c. rw c held)))
-
-  choose-slots : P (choose S m w l .machine .slots)
-  unfolding choose
-  choose-slots = by-test (sound S m)
-      (λ s. rw s (by-test (ltb l (m .lines))
-      (λ i. rw i (by-test (ltb w (m .workers))
-      (λ d. rw d (by-test (ended m) (λ e. rw e held) (λ e. rw e (move-slots (ltb-true l (m .lines) i)))))
-      (λ d. rw d held)))
-      (λ i. rw i held)))
-      (λ s. rw s held)
+  becomes : Becomes (effect S m w l s .slot)
+  becomes = by-test (s .running)
+      (λ r. by-test (eqb (s .pipe .0) 0)
+      (λ e. rw (releases-effect S m w l s r e) (waits (moved-rests (m .pipes) s)))
+      (λ e. rw (finishes-effect S m w l s r e) (waits (moved-rests (m .pipes) s))))
+      (λ r. by-test (eqb (s .pipe .0) 0)
+      (λ e. rw (enters-effect S m w l s r e) (taken-becomes r (S .take (m .source))))
+      (λ e. rw (starts-effect S m w l s r e) (begins r refl)))
 
 -- the slots, with that of one line put anew
 module _ (s : Slots) (size : Sized s) (n : ℕ) (most : n ≤ 32) (each : OneLineEach s n) (l : ℕ) (h : l < n) (v : Slot) where
@@ -117,17 +82,22 @@ module _ (s : Slots) (size : Sized s) (n : ℕ) (most : n ≤ 32) (each : OneLin
           never (sym (at-work s (v .worker .0) n k c (rw (put-other s l v k d) at r)
           (rw (put-other s l v k d) at (e ∙ ap (λ (y : Slot). y .worker .0) here))) ∙ o)
 
--- a line that has moved on does not run
-moved-rests : (pipes : ℕ) (s : Slot) → moved pipes s .running ≡ false
-moved-rests pipes s = by-test (eqb (suc (s .pipe .0)) pipes) (λ e. rw e) (λ e. rw e)
-
 module _ {X : Type 0} {S : Source X} {plan : Pipeline} {workers : ℕ} {order : List ℕ} {z : X} (ok : Allowed plan workers order) where
   -- a choice keeps it
   module _ (st : State X) (g : Standing) (inv : Inv S plan workers order z st g) (each : OneLineEach (st .slots) (plan .lines)) (w l : ℕ) where
-    after : OneLineEach (choose S (whole plan workers st) w l .machine .slots) (plan .lines)
-    after = choose-slots S (whole plan workers st) w l (λ s. OneLineEach s (plan .lines)) each
-        (λ h s. put-resting (st .slots) (inv .slotted .size) (plan .lines) (ok .ranged .lines-most) each l h _ (moved-rests (plan .pipes) s))
-        (λ h o p t k. put-running (st .slots) (inv .slotted .size) (plan .lines) (ok .ranged .lines-most) each l h _ o)
+    abbrev m : Machine X
+    m = whole plan workers st
+
+    by-outcome : {c : Chosen X} → Outcome S m w l (effect S m w l (slotOf m l)) c → (Accepted (c .answer) → l < plan .lines) →
+        (Accepted (c .answer) → slotOf m l .running ≡ false → atWork (st .slots) w (plan .lines) ≡ false) → OneLineEach (c .machine .slots) (plan .lines)
+    by-outcome (refused n) here idle = each
+    by-outcome (made falls event) here idle = elim (becomes S m w l (slotOf m l)) [
+      | waits r ↦ put-resting (st .slots) (inv .slotted .size) (plan .lines) (ok .ranged .lines-most) each l (here event) _ r
+      | begins q e ↦ put-running (st .slots) (inv .slotted .size) (plan .lines) (ok .ranged .lines-most) each l (here event) _ (rw e (idle event q))
+    ]
+
+    after : OneLineEach (choose S m w l .machine .slots) (plan .lines)
+    after = by-outcome (choose-outcome S m w l) (line-below S m w l) (is-idle S m w l)
 
     -- so what holds of every machine that has the invariant and this, holds of what a choice leaves
     pub left-each : (P : Machine X → Type 0) → ((st : State X) (g : Standing) → Inv S plan workers order z st g → OneLineEach (st .slots) (plan .lines) →

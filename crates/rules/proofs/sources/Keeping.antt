@@ -36,7 +36,7 @@ module _ {X : Type 0} {P : X → Type 0} {S : Source X} (keeps : Keeps P S) wher
 
     left-keeps : {c : Chosen X} → Outcome S m w l (effect S m w l (slotOf m l)) c → P (c .machine .source)
     left-keeps (refused n) = held
-    left-keeps (made able ok) = effect-keeps (slotOf m l)
+    left-keeps (made falls ok) = effect-keeps (slotOf m l)
 
     pub choose-keeps : P (choose S m w l .machine .source)
     choose-keeps = left-keeps (choose-outcome S m w l)
