@@ -1,5 +1,5 @@
 -- The example of lines listed alone under other limits holds of the rules: it is computed.
-use mathlib.Core.Path.{_≡_, refl, ap}
+use mathlib.Core.Path.{_≡_, ap}
 use mathlib.Core.Bool.{false}
 use mathlib.Core.List.{List}
 use Prim.Native.Nat.{ℕ}
@@ -7,13 +7,12 @@ use Rattle.rules.specs.Lists.{within, every, keep, has, empty, table}
 use Rattle.rules.specs.TakingTokens.{isDue, takeNew, takeFrom, release}
 use Rattle.rules.specs.TakingTokens as tables
 use Rattle.rules.specs.RunState.{slotAt, putSlot, allIdle}
-use Rattle.rules.specs.Ranges.{sound, numbersSound, isIdle, isLoaded, workerSound, slotSound, mostAt, counterSound, serialSound}
-use Rattle.rules.specs.Choices.{Choice, Answer, opened, openedCounter, tabled, answers, choose, move, start, startFirst, startLater}
+use Rattle.rules.specs.Ranges.{numbersSound, isIdle, isLoaded, workerSound, slotSound, mostAt, serialSound}
+use Rattle.rules.specs.Choices.{Choice, Answer, opened, openedCounter, tabled, answers, move, start, startFirst, startLater}
 use Rattle.rules.specs.Choices.{finish, finishFirst, finishWith, settle, fall, ended, movable, atWork}
-use Rattle.rules.specs.Workers.{firstIdle, workerFor, choicesOf}
 use Rattle.rules.specs.MoreWorkers.{acceptedChoices, withoutRefusals}
-use Rattle.cases.specs.LinesAlone.{source, begun}
-use Rattle.cases.specs.MoreWorkers.{told, practised, sheet, strayed, Worked}
+use Rattle.cases.specs.LinesAlone.{source, begun, chosen}
+use Rattle.cases.specs.MoreWorkers.{told, strayed, Worked}
 use Rattle.cases.proofs.QuickRuns.{walked, countersWalked, quickSound, quickChoose, quickAnswers, quick-answers}
 
 -- the answers, computed quickly
@@ -26,14 +25,13 @@ quick-told workers cs = quick-answers source (begun false workers) cs
 
 pub worked : Worked
 unfolding quick quickAnswers quickChoose quickSound countersWalked walked
-    practised acceptedChoices withoutRefusals choicesOf workerFor firstIdle tables.take takeFrom takeNew release isDue keep has empty
-    opened openedCounter tabled table answers choose move start startFirst startLater finish finishFirst finishWith settle
-    fall ended movable atWork sound numbersSound within isIdle isLoaded workerSound slotSound mostAt counterSound serialSound every slotAt putSlot allIdle
+    acceptedChoices withoutRefusals tables.take takeFrom takeNew release isDue keep has empty
+    opened openedCounter tabled table move start startFirst startLater finish finishFirst finishWith settle
+    fall ended movable atWork numbersSound within isIdle isLoaded workerSound slotSound mostAt serialSound every slotAt putSlot allIdle
 worked = record {
-  named = refl;
-  two = quick-told 2 sheet;
-  three = quick-told 3 sheet;
-  most = quick-told 32 sheet;
+  two = quick-told 2 chosen;
+  three = quick-told 3 chosen;
+  most = quick-told 32 chosen;
   none = quick-told 1 _;
   one = quick-told 1 _;
   strays = quick-told 2 strayed;

@@ -12,6 +12,7 @@ use Rattle.rules.specs.Sources.{Source}
 use Rattle.rules.specs.RunState.{Machine}
 use Rattle.rules.specs.Ranges.{numbersSound, serialSound, slotSound, mostAt, counterSound, sound}
 use Rattle.rules.specs.Choices.{Choice, Chosen, Answer, refuse, ended, move, choose, chooseBy, answers, follow}
+use Rattle.rules.specs.Workers.{choiceOf, choicesOf}
 use Rattle.rules.proofs.lists.Tests.{by-test}
 
 -- a test of so many numbers of a list, each with its place, from place i on; past the list's end they are 0
@@ -108,3 +109,13 @@ module _ {X : Type 0} (S : Source X) where
   quick-answers m (c ∷ cs) =
       ap (λ (d : Chosen X). d .answer ∷ answers S (d .machine) cs) (quick-choose m c)
       ∙ ap (λ (told : List Answer). quickChoose m c .answer ∷ told) (quick-answers (quickChoose m c .machine) cs)
+
+  unfoldable pub quickChoices : Machine X → List ℕ → List Choice
+  quickChoices m [] = []
+  quickChoices m (l ∷ ls) = choiceOf m l ∷ quickChoices (quickChoose m (choiceOf m l) .machine) ls
+
+  pub quick-choices : (m : Machine X) (ls : List ℕ) → choicesOf S m ls ≡ quickChoices m ls
+  unfolding choicesOf quickChoices
+  quick-choices m [] = refl
+  quick-choices m (l ∷ ls) = ap (λ (cs : List Choice). choiceOf m l ∷ cs)
+      (ap (λ (d : Chosen X). choicesOf S (d .machine) ls) (quick-choose m (choiceOf m l)) ∙ quick-choices (quickChoose m (choiceOf m l) .machine) ls)

@@ -9,7 +9,7 @@ use Rattle.rules.specs.RunState.{Machine, slotAt, putSlot, allIdle}
 use Rattle.rules.specs.Ranges.{numbersSound, isIdle, isLoaded, workerSound, slotSound, mostAt, serialSound}
 use Rattle.rules.specs.Choices.{Choice, opened, openedCounter, tabled, move, start, startFirst, startLater}
 use Rattle.rules.specs.Choices.{finish, finishFirst, finishWith, settle, fall, ended, movable, atWork}
-use Rattle.cases.specs.MoreWorkers.{by}
+use Rattle.cases.specs.LinesAlone.{by}
 use Rattle.cases.specs.Swapping.{sourceOf, begun, outOfTurn, records, starting, running, finishing, readyAfter, Worked}
 use Rattle.cases.proofs.QuickRuns.{walked, countersWalked, quickSound, quickChoose, quickFollow, quick-follow, quickAnswers, quick-answers}
 use Rattle.cases.proofs.MoreWorkers.{quick, quick-told}

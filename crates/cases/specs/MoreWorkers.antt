@@ -4,24 +4,12 @@ use mathlib.Core.Bool.{false}
 use mathlib.Core.List.{List, [], _∷_, _++_}
 use Prim.Native.Nat.{ℕ}
 use Rattle.rules.specs.Choices.{Choice, Answer, Started, Finished, Refused, answers}
-use Rattle.rules.specs.Workers.{choicesOf}
 use Rattle.rules.specs.MoreWorkers.{acceptedChoices, withoutRefusals}
-use Rattle.cases.specs.LinesAlone.{lines, source, begun, overtaken}
-
--- a choice of a worker and a line
-abbrev pub by : ℕ → ℕ → Choice
-by w l = record { worker = w; line = l }
+use Rattle.cases.specs.LinesAlone.{source, begun, by, chosen, overtaken}
 
 -- the answers with so many workers
 unfoldable pub told : ℕ → List Choice → List Answer
 told workers choices = answers source (begun false workers) choices
-
--- practice's choices for the lines, with W = 2
-unfoldable pub practised : List Choice
-practised = choicesOf source (begun false 2) lines
-
-abbrev pub sheet : List Choice
-sheet = by 0 0 ∷ by 0 0 ∷ by 0 0 ∷ by 1 1 ∷ by 1 1 ∷ by 1 1 ∷ by 1 1 ∷ []
 
 -- a list with refused choices among others: a worker that W = 2 has not, a line that must wait, a worker who runs another line
 abbrev pub strayed : List Choice
@@ -32,12 +20,10 @@ abbrev pub begins : List Answer
 begins = Started 0 0 0 0 0 ∷ Finished 0 0 0 0 0 ∷ Started 0 1 0 0 0 ∷ []
 
 pub record Worked : Type 0 where
-  -- line 0 is worker 0's, and line 1 worker 1's
-  pub named : practised ≡ sheet
   -- accepted with two workers, and with three or 32, with the same events
-  pub two : told 2 sheet ≡ overtaken
-  pub three : told 3 sheet ≡ overtaken
-  pub most : told 32 sheet ≡ overtaken
+  pub two : told 2 chosen ≡ overtaken
+  pub three : told 3 chosen ≡ overtaken
+  pub most : told 32 chosen ≡ overtaken
   -- with one worker there is no worker 1, and worker 0 cannot start line 1 while line 0 is worker 0's
   pub none : told 1 (by 0 0 ∷ by 0 0 ∷ by 0 0 ∷ by 1 1 ∷ []) ≡ begins ++ (Refused 26 ∷ [])
   pub one : told 1 (by 0 0 ∷ by 0 0 ∷ by 0 0 ∷ by 0 1 ∷ []) ≡ begins ++ (Refused 13 ∷ [])

@@ -10,7 +10,8 @@ use Rattle.rules.specs.TakingTokens as tables
 use Rattle.rules.specs.RunState.{Machine, counterAt}
 use Rattle.rules.specs.Choices.{Choice, Answer, Started, Finished, withPlace, answers, follow, opened}
 use Rattle.rules.specs.PlainSheet.{Deferral, numbersOf, plainSource}
-use Rattle.cases.specs.MoreWorkers.{by, told}
+use Rattle.cases.specs.LinesAlone.{by}
+use Rattle.cases.specs.MoreWorkers.{told}
 
 -- a run of one serial pipe on two lines with two workers, of so many tokens with these records
 abbrev pub sourceOf : ℕ → List Deferral → Source Tables
