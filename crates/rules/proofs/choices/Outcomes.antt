@@ -54,7 +54,7 @@ module _ {X : Type 0} (m : Machine X) (l : ℕ) (s : Slot) where
   unfolding countersBy
   counters-finish r c = rw r
 
-  -- where a finish lets the next line's counter fall, this is not 0
+  -- where a finish lets the next line's counter fall, that one is not 0
   abbrev pub CanFall : Type 0
   CanFall = s .running ≡ true → isSerial m (s .pipe .0) ≡ true → counterOf m (next (m .lines) l) (s .pipe .0) ≡ 0 → ⊥
 
@@ -114,14 +114,15 @@ module _ {X : Type 0} (S : Source X) (m : Machine X) (w l : ℕ) (s : Slot) wher
     unfolding effect
     finishes-effect e = rw (e, r)
 
-module _ {X : Type 0} (S : Source X) (m : Machine X) (w l : ℕ) where
-  abbrev pub did : List ℕ → Effect X → Chosen X
-  did c e = record { answer = e .answer; machine = withPlace m c (putSlot (m .slots) l (e .slot)) (e .placed) (e .stopped) (e .source) }
+-- a choice of line l that leaves these counters and has this effect
+abbrev pub did : {X : Type 0} → Machine X → ℕ → List ℕ → Effect X → Chosen X
+did m l c e = record { answer = e .answer; machine = withPlace m c (putSlot (m .slots) l (e .slot)) (e .placed) (e .stopped) (e .source) }
 
+module _ {X : Type 0} (S : Source X) (m : Machine X) (w l : ℕ) where
   -- the choice is refused, and the run is as it was; or it is accepted, and has this effect
   pub data Outcome (e : Effect X) : Chosen X → Type 0 where
     refused : (n : ℕ) → Outcome e (refuse m n)
-    made : CanFall m l (slotOf m l) → Accepted (e .answer) → Outcome e (did (countersBy m l (slotOf m l) (m .counters)) e)
+    made : CanFall m l (slotOf m l) → Accepted (e .answer) → Outcome e (did m l (countersBy m l (slotOf m l) (m .counters)) e)
 
   -- by the two outcomes of a test
   by : {e : Effect X} (b : Bool) {c d : Chosen X} → (b ≡ true → Outcome e c) → (b ≡ false → Outcome e d) → Outcome e (if b c d)
@@ -131,8 +132,9 @@ module _ {X : Type 0} (S : Source X) (m : Machine X) (w l : ℕ) where
   either : {e : Effect X} (b : Bool) {c d : Chosen X} → Outcome e c → Outcome e d → Outcome e (if b c d)
   either b p q = by b (λ e. p) (λ e. q)
 
-  made-with : {e : Effect X} (c : List ℕ) → countersBy m l (slotOf m l) (m .counters) ≡ c → CanFall m l (slotOf m l) → Accepted (e .answer) → Outcome e (did c e)
-  made-with {e} c q falls ok = subst (λ c. Outcome e (did c e)) q (made falls ok)
+  -- with the counters as another term has them
+  made-with : {e : Effect X} (c : List ℕ) → countersBy m l (slotOf m l) (m .counters) ≡ c → CanFall m l (slotOf m l) → Accepted (e .answer) → Outcome e (did m l c e)
+  made-with {e} c q falls ok = subst (λ c. Outcome e (did m l c e)) q (made falls ok)
 
   -- a waiting line
   module _ (r : slotOf m l .running ≡ false) where
@@ -223,10 +225,10 @@ module _ {X : Type 0} (S : Source X) (m : Machine X) (w l : ℕ) where
 
   -- and one that is accepted has its effect
   accepted : {e : Effect X} {c : Chosen X} → Outcome e c → Accepted (c .answer) →
-      CanFall m l (slotOf m l) × (c ≡ did (countersBy m l (slotOf m l) (m .counters)) e)
+      CanFall m l (slotOf m l) × (c ≡ did m l (countersBy m l (slotOf m l) (m .counters)) e)
   accepted (refused n) ok = absurd (ok n refl)
   accepted (made falls event) ok = (falls, refl)
 
   pub accepted-choice : Accepted (choose S m w l .answer) →
-      CanFall m l (slotOf m l) × (choose S m w l ≡ did (countersBy m l (slotOf m l) (m .counters)) (effect S m w l (slotOf m l)))
+      CanFall m l (slotOf m l) × (choose S m w l ≡ did m l (countersBy m l (slotOf m l) (m .counters)) (effect S m w l (slotOf m l)))
   accepted-choice = accepted choose-outcome

@@ -19,10 +19,10 @@ use Rattle.rules.specs.Swapping.{Swapped}
 use Rattle.rules.proofs.lists.Tests.{same, other, sameAs, by-test}
 use Rattle.rules.proofs.lists.SlotRows.{put-other, put-swap}
 use Rattle.rules.proofs.standing.Finish.{next-lt}
-use Rattle.rules.proofs.choices.Outcomes.{Effect, effect, fallIf, countersBy, counters-start, counters-finish, CanFall, did, accepted-choice}
-use Rattle.rules.proofs.choices.Accepting.{is-sound, line-below, counter-zero}
 use Rattle.rules.proofs.choices.SoundMachines.{pipes-most, pipe-in}
-use Rattle.rules.proofs.choices.Outcomes.{entered, starts-effect, finishes-effect}
+use Rattle.rules.proofs.choices.Accepting.{is-sound, line-below, counter-zero}
+use Rattle.rules.proofs.choices.Outcomes.{Effect, entered, effect, starts-effect, finishes-effect}
+use Rattle.rules.proofs.choices.Outcomes.{fallIf, countersBy, counters-start, counters-finish, CanFall, did, accepted-choice}
 
 -- two falls
 fall-swap : (c : List ℕ) (i j : ℕ) → fall (fall c i) j ≡ fall (fall c j) i
@@ -107,8 +107,8 @@ module _ {X : Type 0} (S : Source X) (m : Machine X) where
 
   -- an accepted choice whose line has slot s
   with-slot : (n : Machine X) (c : Choice) (s : Slot) → slotOf n (c .line) ≡ s → Accepted (chooseBy S n c .answer) →
-      chooseBy S n c ≡ did S n (c .worker) (c .line) (countersBy n (c .line) s (n .counters)) (effect S n (c .worker) (c .line) s)
-  with-slot n c s e ok = subst (λ s. chooseBy S n c ≡ did S n (c .worker) (c .line) (countersBy n (c .line) s (n .counters)) (effect S n (c .worker) (c .line) s)) e
+      chooseBy S n c ≡ did n (c .line) (countersBy n (c .line) s (n .counters)) (effect S n (c .worker) (c .line) s)
+  with-slot n c s e ok = subst (λ s. chooseBy S n c ≡ did n (c .line) (countersBy n (c .line) s (n .counters)) (effect S n (c .worker) (c .line) s)) e
       (accepted-choice S n (c .worker) (c .line) ok .1)
 
   -- a line whose choice is accepted may move
@@ -143,7 +143,7 @@ module _ {X : Type 0} (S : Source X) (m : Machine X) where
 
       a-first : chooseBy S m a ≡ record { answer = x .answer; machine = after-a }
       unfolding answers
-      a-first = with-slot m a s refl (one-way .0) ∙ ap (did S m (a .worker) (a .line) (countersBy m (a .line) s (m .counters)))
+      a-first = with-slot m a s refl (one-way .0) ∙ ap (did m (a .line) (countersBy m (a .line) s (m .counters)))
           (past (a .worker) (a .line) s later (m .counters) (m .slots) (m .placed) (m .stopped) (m .source))
 
       b-first : chooseBy S m b ≡ record { answer = y .answer; machine = after-b }
@@ -163,7 +163,7 @@ module _ {X : Type 0} (S : Source X) (m : Machine X) where
       }
       unfolding answers countersBy
       a-second = with-slot after-b a s (put-other (m .slots) (b .line) (y .slot) (a .line) apart) (rw b-first at (other-way .1 .0))
-          ∙ ap (did S after-b (a .worker) (a .line) (countersBy m (a .line) s (after-b .counters)))
+          ∙ ap (did after-b (a .line) (countersBy m (a .line) s (after-b .counters)))
           (past (a .worker) (a .line) s later (after-b .counters) (after-b .slots) (y .placed) (y .stopped) (y .source))
 
       same-counters : countersBy m (b .line) t (after-a .counters) ≡ countersBy m (a .line) s (after-b .counters)
