@@ -1,9 +1,15 @@
 -- One choice, and a list of them. Reading order:
+-- lists of answers;
+pub mod Answers
+-- what a machine is like whose numbers are in range;
+pub mod SoundMachines
+-- the cases of a choice there;
+pub mod Cases
 -- what an accepted choice has passed, in any machine;
 pub mod Accepting
 -- what a choice does there: refused, it changes nothing;
 pub mod Outcomes
--- two choices in either order, in any machine;
+-- two choices in either order;
 pub mod Swapping
 -- each kind of move keeps the invariant;
 pub mod Moves
@@ -13,12 +19,8 @@ pub mod Steps
 pub mod Stands
 -- the invariant holds at opening;
 pub mod Opening
--- lists of answers;
-pub mod Answers
 -- a run as a trace of its moves;
 pub mod Trace
--- what a machine is like whose numbers are in range;
-pub mod SoundMachines
 -- the worker that goes with a line;
 pub mod Workers
 -- a line listed alone, by that worker;

@@ -1,70 +1,65 @@
--- What a choice has passed that is accepted, in any machine.
-use mathlib.Core.Path.{_≡_}
+-- What an accepted choice has passed, in any machine.
+use mathlib.Core.Path.{_≡_, ap}
 use mathlib.Core.Bool.{true, false}
 use Prim.Native.Nat.{ℕ, _<_}
-use lib.Dec.{ltb, eqb}
-use borrow.Author.Tests.{ltb-true, lt-ltb, eqb-true}
+use native.Mathlib.Omega.{arith}
 use Rattle.rules.specs.Sources.{Source}
 use Rattle.rules.specs.RunState.{Machine, slotOf, counterOf}
 use Rattle.rules.specs.Ranges.{sound}
-use Rattle.rules.specs.Choices.{Refused, atWork, ended, start, move, choose}
+use Rattle.rules.specs.Choices.{Refused, Chosen, refuse, atWork, ended, start, choose}
 use Rattle.rules.specs.WholeRuns.{Accepted}
-use Rattle.rules.proofs.lists.Tests.{by-test}
+use Rattle.rules.proofs.lists.Tests.{same, other, sameAs, lower, upper, below, holds, fails, see}
+use Rattle.rules.proofs.choices.Cases.{far, unknown, over, another, early, occupied, waiting-choice}
 
 module _ {X : Type 0} (S : Source X) (m : Machine X) (w l : ℕ) where
-  -- one that is not answered by 14 has every number in range
+  -- where a choice is not answered by 14, every number is in range
   pub unspoiled-sound : (choose S m w l .answer ≡ Refused 14 → ⊥) → sound S m ≡ true
   unfolding choose
-  unspoiled-sound n = by-test (sound S m) (λ e. e) (λ e. absurd (n (rw e)))
+  unspoiled-sound n = elim (see (sound S m)) [ holds e ↦ e | fails e ↦ absurd (n (rw e)) ]
 
   module _ (accepts : Accepted (choose S m w l .answer)) where
-    pub is-sound : sound S m ≡ true
-    is-sound = unspoiled-sound (accepts 14)
+    not-refused : (n : ℕ) → choose S m w l ≡ refuse m n → ⊥
+    not-refused n e = accepts n (ap (λ (c : Chosen X). c .answer) e)
 
-    is-line : ltb l (m .lines) ≡ true
-    unfolding choose
-    is-line = by-test (ltb l (m .lines)) (λ e. e) (λ e. absurd (accepts 10 (rw (is-sound, e))))
+    pub accepted-sound : sound S m ≡ true
+    accepted-sound = unspoiled-sound (accepts 14)
 
-    is-worker : ltb w (m .workers) ≡ true
-    unfolding choose
-    is-worker = by-test (ltb w (m .workers)) (λ e. e) (λ e. absurd (accepts 26 (rw (is-sound, is-line, e))))
+    pub accepted-line : l < m .lines
+    accepted-line = elim (below l (m .lines)) [ lower h t ↦ h | upper h t ↦ absurd (not-refused 10 (far S m w l accepted-sound h)) ]
 
-    -- its line is below L, and its worker below W
-    pub line-below : l < m .lines
-    line-below = ltb-true l (m .lines) is-line
+    pub accepted-worker : w < m .workers
+    accepted-worker = elim (below w (m .workers)) [
+      | lower h t ↦ h
+      | upper h t ↦ absurd (not-refused 26 (unknown S m w l accepted-sound accepted-line h))
+    ]
 
-    pub worker-below : w < m .workers
-    worker-below = ltb-true w (m .workers) is-worker
-
-    is-open : ended m ≡ false
-    unfolding choose
-    is-open = by-test (ended m) (λ e. absurd (accepts 11 (rw (is-sound, is-line, is-worker, e)))) (λ e. e)
+    accepted-open : ended m ≡ false
+    accepted-open = elim (see (ended m)) [
+      | fails e ↦ e
+      | holds e ↦ absurd (not-refused 11 (over S m w l accepted-sound accepted-line accepted-worker e))
+    ]
 
     -- a finish is by the line's own worker
-    pub own : slotOf m l .running ≡ true → slotOf m l .worker .0 ≡ w
-    unfolding choose move
-    own r = by-test (eqb (slotOf m l .worker .0) w)
-        (λ e. eqb-true (slotOf m l .worker .0) w e)
-        (λ e. absurd (accepts 26 (rw (is-sound, is-line, is-worker, is-open, r, e))))
+    pub accepted-own : slotOf m l .running ≡ true → slotOf m l .worker .0 ≡ w
+    accepted-own r = elim (sameAs (slotOf m l .worker .0) w) [
+      | same e t ↦ e
+      | other e t ↦ absurd (not-refused 26 (another S m w l accepted-sound accepted-line accepted-worker accepted-open r e))
+    ]
 
     -- a start has counter 0, and is by an idle worker
     module _ (r : slotOf m l .running ≡ false) where
-      is-due : eqb (counterOf m l (slotOf m l .pipe .0)) 0 ≡ true
-      unfolding choose move
-      is-due = by-test (eqb (counterOf m l (slotOf m l .pipe .0)) 0)
-          (λ e. e)
-          (λ e. absurd (accepts 12 (rw (is-sound, is-line, is-worker, is-open, r, e))))
+      pub accepted-due : counterOf m l (slotOf m l .pipe .0) ≡ 0
+      accepted-due = elim (sameAs (counterOf m l (slotOf m l .pipe .0)) 0) [
+        | same e t ↦ e
+        | other e t ↦ absurd (not-refused 12 (early S m w l accepted-sound accepted-line accepted-worker accepted-open r (omega arith)))
+      ]
 
-      pub counter-zero : counterOf m l (slotOf m l .pipe .0) ≡ 0
-      counter-zero = eqb-true (counterOf m l (slotOf m l .pipe .0)) 0 is-due
+      pub accepted-idle : atWork (m .slots) w (m .lines) ≡ false
+      accepted-idle = elim (see (atWork (m .slots) w (m .lines))) [
+        | fails e ↦ e
+        | holds e ↦ absurd (not-refused 13 (occupied S m w l accepted-sound accepted-line accepted-worker accepted-open r accepted-due e))
+      ]
 
-      pub is-idle : atWork (m .slots) w (m .lines) ≡ false
-      unfolding choose move
-      is-idle = by-test (atWork (m .slots) w (m .lines))
-          (λ e. absurd (accepts 13 (rw (is-sound, is-line, is-worker, is-open, r, is-due, e))))
-          (λ e. e)
-
-      -- so every idle worker below W starts
+      -- so every idle worker below W would start
       pub starts-too : (v : ℕ) → v < m .workers → atWork (m .slots) v (m .lines) ≡ false → choose S m v l ≡ start S m v l
-      unfolding choose move
-      starts-too v h o = rw (is-sound, is-line, lt-ltb v (m .workers) h, is-open, r, is-due, o)
+      starts-too v h o = waiting-choice S m v l accepted-sound accepted-line h accepted-open r accepted-due o

@@ -2,64 +2,23 @@
 use mathlib.Core.Path.{_≡_, sym, ap, _∙_}
 use mathlib.Core.Bool.{true, false}
 use mathlib.Core.List.{List}
-use Prim.Native.Nat.{ℕ, _+_, _*_, _≤_, _<_}
+use Prim.Native.Nat.{ℕ, _+_, _*_, _<_}
 use native.Mathlib.Omega.{arith}
 use lib.ListN.{getD}
-use borrow.Author.Tests.{lt-ltb, le-ltb, eq-eqb, ne-eqb}
 use Rattle.vocabulary.specs.declared.Slot.{Slot}
-use Rattle.rules.specs.RunState.{Pipeline, Machine, slotAt, slotOf, counterOf}
+use Rattle.rules.specs.RunState.{Pipeline, slotAt, slotOf, counterOf}
 use Rattle.rules.specs.Choices.{Chosen, refuse}
 use Rattle.rules.specs.Sources.{Source}
 use Rattle.rules.specs.Ranges.{sound}
-use Rattle.rules.specs.Choices.{ended, atWork, start, move, choose}
-use Rattle.rules.specs.Choices.{finish as finishMachine}
-use Rattle.rules.proofs.lists.Tests.{same, other, sameAs, lower, upper, below, holds, fails, see, pos-eqb, never}
+use Rattle.rules.specs.Choices.{ended, atWork, move, choose}
+use Rattle.rules.proofs.lists.Tests.{same, other, sameAs, lower, upper, below, holds, fails, see, never}
 use Rattle.rules.proofs.standing.Standing.{Standing, serialAt, waiting, turn, start-busy, turn-no}
 use Rattle.rules.proofs.standing.Begin.{waiting-busy}
 use Rattle.rules.proofs.invariant.Invariant.{Allowed, State, whole, Inv}
 use Rattle.rules.proofs.invariant.Slots.{shown-pipe, shown-rests, shown-runs, shown-stopped}
 use Rattle.rules.proofs.invariant.Sound.{is-sound}
 use Rattle.rules.proofs.choices.Moves.{Move, finish-move, start-move}
-
--- the cases of a choice, one after the other
-module _ {X : Type 0} (S : Source X) (m : Machine X) (w l : ℕ) (ok : sound S m ≡ true) where
-  far : m .lines ≤ l → choose S m w l ≡ refuse m 10
-  unfolding choose
-  far h = rw (ok, le-ltb l (m .lines) h)
-
-  unknown : l < m .lines → m .workers ≤ w → choose S m w l ≡ refuse m 26
-  unfolding choose
-  unknown h d = rw (ok, lt-ltb l (m .lines) h, le-ltb w (m .workers) d)
-
-  over : l < m .lines → w < m .workers → ended m ≡ true → choose S m w l ≡ refuse m 11
-  unfolding choose
-  over h d e = rw (ok, lt-ltb l (m .lines) h, lt-ltb w (m .workers) d, e)
-
-  module _ (h : l < m .lines) (d : w < m .workers) (e : ended m ≡ false) where
-    module _ (r : slotOf m l .running ≡ true) where
-      -- a running line finishes, by its worker
-      pub running-choice : slotOf m l .worker .0 ≡ w → choose S m w l ≡ finishMachine S m l
-      unfolding choose move
-      running-choice o = rw (ok, lt-ltb l (m .lines) h, lt-ltb w (m .workers) d, e, r, eq-eqb (slotOf m l .worker .0) w o)
-
-      another : (slotOf m l .worker .0 ≡ w → ⊥) → choose S m w l ≡ refuse m 26
-      unfolding choose move
-      another o = rw (ok, lt-ltb l (m .lines) h, lt-ltb w (m .workers) d, e, r, ne-eqb (slotOf m l .worker .0) w o)
-
-    module _ (r : slotOf m l .running ≡ false) where
-      early : 0 < counterOf m l (slotOf m l .pipe .0) → choose S m w l ≡ refuse m 12
-      unfolding choose move
-      early c = rw (ok, lt-ltb l (m .lines) h, lt-ltb w (m .workers) d, e, r, pos-eqb c)
-
-      module _ (c : counterOf m l (slotOf m l .pipe .0) ≡ 0) where
-        occupied : atWork (m .slots) w (m .lines) ≡ true → choose S m w l ≡ refuse m 13
-        unfolding choose move
-        occupied o = rw (ok, lt-ltb l (m .lines) h, lt-ltb w (m .workers) d, e, r, c, o)
-
-        -- a waiting line starts, by an idle worker
-        pub waiting-choice : atWork (m .slots) w (m .lines) ≡ false → choose S m w l ≡ start S m w l
-        unfolding choose move
-        waiting-choice o = rw (ok, lt-ltb l (m .lines) h, lt-ltb w (m .workers) d, e, r, c, o)
+use Rattle.rules.proofs.choices.Cases.{far, unknown, over, running-choice, another, early, occupied, waiting-choice}
 
 module _ {X : Type 0} (S : Source X) (plan : Pipeline) (workers : ℕ) (order : List ℕ) (z : X) where
   -- what a choice of worker w and line l does

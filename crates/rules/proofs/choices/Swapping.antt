@@ -20,7 +20,7 @@ use Rattle.rules.proofs.lists.Tests.{same, other, sameAs, by-test}
 use Rattle.rules.proofs.lists.SlotRows.{put-other, put-swap}
 use Rattle.rules.proofs.standing.Finish.{next-lt}
 use Rattle.rules.proofs.choices.SoundMachines.{pipes-most, pipe-in}
-use Rattle.rules.proofs.choices.Accepting.{is-sound, line-below, counter-zero}
+use Rattle.rules.proofs.choices.Accepting.{accepted-sound, accepted-line, accepted-due}
 use Rattle.rules.proofs.choices.Outcomes.{Effect, entered, effect, starts-effect, finishes-effect}
 use Rattle.rules.proofs.choices.Outcomes.{fallIf, countersBy, counters-start, counters-finish, CanFall, did, accepted-choice}
 
@@ -114,8 +114,8 @@ module _ {X : Type 0} (S : Source X) (m : Machine X) where
   -- a line whose choice is accepted may move
   may-move : (c : Choice) → Accepted (chooseBy S m c .answer) → MayMove m (c .line) (slotOf m (c .line))
   may-move c ok = record {
-    at = pipe-in S m (is-sound S m (c .worker) (c .line) ok) (c .line) (line-below S m (c .worker) (c .line) ok);
-    fills = counter-zero S m (c .worker) (c .line) ok;
+    at = pipe-in S m (accepted-sound S m (c .worker) (c .line) ok) (c .line) (accepted-line S m (c .worker) (c .line) ok);
+    fills = accepted-due S m (c .worker) (c .line) ok;
     falls = accepted-choice S m (c .worker) (c .line) ok .0;
   }
 
@@ -168,7 +168,7 @@ module _ {X : Type 0} (S : Source X) (m : Machine X) where
 
       same-counters : countersBy m (b .line) t (after-a .counters) ≡ countersBy m (a .line) s (after-b .counters)
       unfolding answers
-      same-counters = counters-swap m (pipes-most S m (is-sound S m (a .worker) (a .line) (one-way .0))) (a .line) (b .line) apart s t
+      same-counters = counters-swap m (pipes-most S m (accepted-sound S m (a .worker) (a .line) (one-way .0))) (a .line) (b .line) apart s t
           (may-move a (one-way .0)) (may-move b (other-way .0)) (m .counters)
 
       later-swapped : Swapped S m a b

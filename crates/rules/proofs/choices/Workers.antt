@@ -12,7 +12,7 @@ use Rattle.rules.specs.Choices.{runBy, atWork, startFirst, startLater, s
 use Rattle.rules.specs.Workers.{firstIdle, workerFor, withoutWorker}
 use Rattle.rules.specs.WholeRuns.{Accepted}
 use Rattle.rules.proofs.lists.Tests.{by-test, same, other, sameAs, holds, fails, see, never, if-same}
-use Rattle.rules.proofs.choices.Accepting.{worker-below, own, is-idle, starts-too}
+use Rattle.rules.proofs.choices.Accepting.{accepted-worker, accepted-own, accepted-idle, starts-too}
 
 -- a worker that runs a line is at work
 pub at-work : (s : Slots) (w n j : ℕ) → j < n → slotAt s j .running ≡ true → slotAt s j .worker .0 ≡ w → atWork s w n ≡ true
@@ -89,8 +89,8 @@ module _ {X : Type 0} (S : Source X) (m : Machine X) (l : ℕ) where
   module _ (w : ℕ) (accepts : Accepted (choose S m w l .answer)) where
     waits-same : slotOf m l .running ≡ false → withoutWorker (choose S m (workerFor m l) l .answer) ≡ withoutWorker (choose S m w l .answer)
     waits-same r =
-        let idle : atWork (m .slots) w (m .lines) ≡ false = is-idle S m w l accepts r in
-        let known : w < m .workers = worker-below S m w l accepts in
+        let idle : atWork (m .slots) w (m .lines) ≡ false = accepted-idle S m w l accepts r in
+        let known : w < m .workers = accepted-worker S m w l accepts in
         let v : ℕ = firstIdle (m .slots) (m .lines) 0 (m .workers) in
         let f : FirstIdle (m .slots) (m .lines) 0 (m .workers) v = first-idle (m .slots) (m .lines) (m .workers) 0 w (omega arith) (omega arith) idle in
         rw (worker-waits r, starts-too S m w l accepts r v (omega (arith, f .below)) (f .idle), starts-too S m w l accepts r w known idle) (start-same v w)
@@ -98,5 +98,5 @@ module _ {X : Type 0} (S : Source X) (m : Machine X) (l : ℕ) where
     -- so the choice by the line's worker has the same event, but for the worker
     pub practice-same : withoutWorker (choose S m (workerFor m l) l .answer) ≡ withoutWorker (choose S m w l .answer)
     practice-same = by-test (slotOf m l .running)
-        (λ r. ap (λ v. withoutWorker (choose S m v l .answer)) (worker-runs r ∙ own S m w l accepts r))
+        (λ r. ap (λ v. withoutWorker (choose S m v l .answer)) (worker-runs r ∙ accepted-own S m w l accepts r))
         (λ r. waits-same r)

@@ -18,7 +18,7 @@ use Rattle.rules.proofs.lists.EveryLaws.{every-weaken}
 use Rattle.rules.proofs.lists.Holding.{first-holds, rest-hold}
 use Rattle.rules.proofs.invariant.Sound.{every-holds, within-range}
 use Rattle.rules.proofs.choices.SoundMachines.{slots-ok, slot-ok, workers-ok, workers-some}
-use Rattle.rules.proofs.choices.Accepting.{unspoiled-sound, worker-below}
+use Rattle.rules.proofs.choices.Accepting.{unspoiled-sound, accepted-worker}
 use Rattle.rules.proofs.choices.Outcomes.{workers-kept}
 use Rattle.rules.proofs.sources.Following.{choose-as, itself}
 use Rattle.rules.proofs.runs.AcceptedAlone.{events-accepted, alone-told, alone-left}
@@ -36,7 +36,7 @@ accepted-known : {X : Type 0} (S : Source X) (m : Machine X) (cs : List Choice) 
 unfolding answers
 accepted-known S m [] ok = tt
 accepted-known S m (c ∷ cs) ok = (
-  worker-below S m (c .worker) (c .line) (ok .0),
+  accepted-worker S m (c .worker) (c .line) (ok .0),
   rw (workers-kept S m (c .worker) (c .line)) at (accepted-known S (chooseBy S m c .machine) cs (ok .1)),
 )
 

@@ -19,7 +19,7 @@ use Rattle.rules.proofs.invariant.Invariant.{Allowed, State, whole, Inv
 use Rattle.rules.proofs.choices.Workers.{at-work}
 use Rattle.rules.proofs.choices.Opening.{at-opening, opening, opening-inv}
 use Rattle.rules.proofs.choices.Stands.{Stands, stands}
-use Rattle.rules.proofs.choices.Accepting.{line-below, is-idle}
+use Rattle.rules.proofs.choices.Accepting.{accepted-line, accepted-idle}
 use Rattle.rules.proofs.choices.Outcomes.{entered, effect, Outcome, refused, made, choose-outcome}
 use Rattle.rules.proofs.choices.Outcomes.{enters-effect, starts-effect, releases-effect, finishes-effect}
 
@@ -97,7 +97,7 @@ module _ {X : Type 0} {S : Source X} {plan : Pipeline} {workers : ℕ} {order : 
     ]
 
     after : OneLineEach (choose S m w l .machine .slots) (plan .lines)
-    after = by-outcome (choose-outcome S m w l) (line-below S m w l) (is-idle S m w l)
+    after = by-outcome (choose-outcome S m w l) (accepted-line S m w l) (accepted-idle S m w l)
 
     -- so what holds of every machine that has the invariant and this, holds of what a choice leaves
     pub left-each : (P : Machine X → Type 0) → ((st : State X) (g : Standing) → Inv S plan workers order z st g → OneLineEach (st .slots) (plan .lines) →
