@@ -21,8 +21,8 @@ use Rattle.rules.proofs.lists.SlotRows.{put-other, put-swap}
 use Rattle.rules.proofs.standing.Finish.{next-lt}
 use Rattle.rules.proofs.choices.SoundMachines.{pipes-most, pipe-in}
 use Rattle.rules.proofs.choices.Accepting.{accepted-sound, accepted-line, accepted-due}
-use Rattle.rules.proofs.choices.Outcomes.{Effect, entered, effect, starts-effect, finishes-effect}
-use Rattle.rules.proofs.choices.Outcomes.{fallIf, countersBy, counters-start, counters-finish, CanFall, did, accepted-choice}
+use Rattle.rules.proofs.choices.Outcomes.{Effect, enterEffect, effect, starts, finishes}
+use Rattle.rules.proofs.choices.Outcomes.{fallIf, countersBy, counters-start, counters-finish, NextCanFall, did, accepted-choice}
 
 -- two falls
 fall-swap : (c : List ℕ) (i j : ℕ) → fall (fall c i) j ≡ fall (fall c j) i
@@ -48,7 +48,7 @@ fill-fall false c i v j n = refl
 record MayMove {X : Type 0} (m : Machine X) (l : ℕ) (s : Slot) : Type 0 where
   at : s .pipe .0 < m .pipes
   fills : s .running ≡ false → counterOf m l (s .pipe .0) ≡ 0
-  falls : CanFall m l s
+  falls : NextCanFall m l s
 
 module _ {X : Type 0} (m : Machine X) (most : m .pipes ≤ 16) where
   -- the counters after two lines' choices do not depend on their order
@@ -102,8 +102,8 @@ module _ {X : Type 0} (S : Source X) (m : Machine X) where
       effect S (withPlace m c v k b x) w l s ≡
       record { answer = effect S m w l s .answer; slot = effect S m w l s .slot; placed = k; stopped = b; source = x }
   past w l s e c v k b x = by-test (s .running)
-      (λ r. rw (finishes-effect S (withPlace m c v k b x) w l s r e, finishes-effect S m w l s r e))
-      (λ r. rw (starts-effect S (withPlace m c v k b x) w l s r e, starts-effect S m w l s r e))
+      (λ r. rw (finishes S (withPlace m c v k b x) w l s r e, finishes S m w l s r e))
+      (λ r. rw (starts S (withPlace m c v k b x) w l s r e, starts S m w l s r e))
 
   -- an accepted choice whose line has slot s
   with-slot : (n : Machine X) (c : Choice) (s : Slot) → slotOf n (c .line) ≡ s → Accepted (chooseBy S n c .answer) →
@@ -154,7 +154,7 @@ module _ {X : Type 0} (S : Source X) (m : Machine X) where
         answer = y .answer;
         machine = withPlace m (countersBy m (b .line) t (after-a .counters)) (putSlot (after-a .slots) (b .line) (y .slot)) (y .placed) (y .stopped) (y .source);
       }
-      unfolding answers effect entered countersBy
+      unfolding answers effect enterEffect countersBy
       b-second = with-slot after-a b t (put-other (m .slots) (a .line) (x .slot) (b .line) (λ e. apart (sym e))) (rw a-first at (one-way .1 .0))
 
       a-second : chooseBy S after-b a ≡ record {

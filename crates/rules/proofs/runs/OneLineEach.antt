@@ -20,8 +20,7 @@ use Rattle.rules.proofs.choices.Workers.{at-work}
 use Rattle.rules.proofs.choices.Opening.{at-opening, opening, opening-inv}
 use Rattle.rules.proofs.choices.Stands.{Stands, stands}
 use Rattle.rules.proofs.choices.Accepting.{accepted-line, accepted-idle}
-use Rattle.rules.proofs.choices.Outcomes.{entered, effect, Outcome, refused, made, choose-outcome}
-use Rattle.rules.proofs.choices.Outcomes.{enters-effect, starts-effect, releases-effect, finishes-effect}
+use Rattle.rules.proofs.choices.Outcomes.{enterEffect, effect, by-effect, Outcome, turned-down, made, choose-outcome}
 
 -- a line that has moved on does not run
 moved-rests : (pipes : ℕ) (s : Slot) → moved pipes s .running ≡ false
@@ -33,20 +32,18 @@ module _ {X : Type 0} (S : Source X) (m : Machine X) (w l : ℕ) (s : Slot) wher
     waits : v .running ≡ false → Becomes v
     begins : s .running ≡ false → v .worker .0 ≡ w → Becomes v
 
-  taken-becomes : s .running ≡ false → (o : Taken X) → Becomes (entered S m w l s o .slot)
-  unfolding entered
+  taken-becomes : s .running ≡ false → (o : Taken X) → Becomes (enterEffect m l s w o .slot)
+  unfolding enterEffect
   taken-becomes r Spoiled = waits r
   taken-becomes r (Nothing x) = waits r
   taken-becomes r (Took t x) = begins r refl
 
   becomes : Becomes (effect S m w l s .slot)
-  becomes = by-test (s .running)
-      (λ r. by-test (eqb (s .pipe .0) 0)
-      (λ e. rw (releases-effect S m w l s r e) (waits (moved-rests (m .pipes) s)))
-      (λ e. rw (finishes-effect S m w l s r e) (waits (moved-rests (m .pipes) s))))
-      (λ r. by-test (eqb (s .pipe .0) 0)
-      (λ e. rw (enters-effect S m w l s r e) (taken-becomes r (S .take (m .source))))
-      (λ e. rw (starts-effect S m w l s r e) (begins r refl)))
+  becomes = by-effect S m w l s (λ e. Becomes (e .slot))
+      (λ r. waits (moved-rests (m .pipes) s))
+      (λ r. waits (moved-rests (m .pipes) s))
+      (λ r. taken-becomes r (S .take (m .source)))
+      (λ r. begins r refl)
 
 -- the slots, with that of one line put anew
 module _ (s : Slots) (size : Sized s) (n : ℕ) (most : n ≤ 32) (each : OneLineEach s n) (l : ℕ) (h : l < n) (v : Slot) where
@@ -90,7 +87,7 @@ module _ {X : Type 0} {S : Source X} {plan : Pipeline} {workers : ℕ} {order : 
 
     by-outcome : {c : Chosen X} → Outcome S m w l (effect S m w l (slotOf m l)) c → (Accepted (c .answer) → l < plan .lines) →
         (Accepted (c .answer) → slotOf m l .running ≡ false → atWork (st .slots) w (plan .lines) ≡ false) → OneLineEach (c .machine .slots) (plan .lines)
-    by-outcome (refused n) here idle = each
+    by-outcome (turned-down n) here idle = each
     by-outcome (made falls event) here idle = elim (becomes S m w l (slotOf m l)) [
       | waits r ↦ put-resting (st .slots) (inv .slotted .size) (plan .lines) (ok .ranged .lines-most) each l (here event) _ r
       | begins q e ↦ put-running (st .slots) (inv .slotted .size) (plan .lines) (ok .ranged .lines-most) each l (here event) _ (rw e (idle event q))

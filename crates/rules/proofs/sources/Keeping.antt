@@ -1,21 +1,18 @@
 -- What a source keeps, a run over it keeps.
 use mathlib.Core.List.{List, [], _∷_}
 use Prim.Native.Nat.{ℕ}
-use lib.Dec.{eqb}
 use Rattle.vocabulary.specs.declared.Slot.{Slot}
 use Rattle.rules.specs.Sources.{Source, Taken, Spoiled, Nothing, Took, Released, Broken, Passed}
 use Rattle.rules.specs.RunState.{Machine, slotOf}
 use Rattle.rules.specs.Choices.{Choice, Chosen, choose, chooseBy, follow}
 use Rattle.rules.specs.RelatedSources.{OnTaken, OnReleased, Keeps}
-use Rattle.rules.proofs.lists.Tests.{by-test}
-use Rattle.rules.proofs.choices.Outcomes.{entered, releasedFrom, effect, Outcome, refused, made, choose-outcome}
-use Rattle.rules.proofs.choices.Outcomes.{enters-effect, starts-effect, releases-effect, finishes-effect}
+use Rattle.rules.proofs.choices.Outcomes.{releasedFrom, enterEffect, effect, by-effect, Outcome, turned-down, made, choose-outcome}
 
 module _ {X : Type 0} {P : X → Type 0} {S : Source X} (keeps : Keeps P S) where
   module _ (m : Machine X) (held : P (m .source)) (w l : ℕ) where
     -- what a choice makes of the source
-    taken-keeps : (s : Slot) (o : Taken X) → OnTaken P o → P (entered S m w l s o .source)
-    unfolding entered
+    taken-keeps : (s : Slot) (o : Taken X) → OnTaken P o → P (enterEffect m l s w o .source)
+    unfolding enterEffect
     taken-keeps s Spoiled h = held
     taken-keeps s (Nothing x) h = h
     taken-keeps s (Took t x) h = h
@@ -25,17 +22,14 @@ module _ {X : Type 0} {P : X → Type 0} {S : Source X} (keeps : Keeps P S) wher
     released-keeps (Passed x) h = h
 
     effect-keeps : (s : Slot) → P (effect S m w l s .source)
-    effect-keeps s = by-test (eqb (s .pipe .0) 0)
-        (λ e. by-test (s .running)
-        (λ r. rw (releases-effect S m w l s r e)
-        (released-keeps (S .release (s .token .0) (m .source)) (keeps .releases (s .token .0) (m .source) held)))
-        (λ r. rw (enters-effect S m w l s r e) (taken-keeps s (S .take (m .source)) (keeps .takes (m .source) held))))
-        (λ e. by-test (s .running)
-        (λ r. rw (finishes-effect S m w l s r e) held)
-        (λ r. rw (starts-effect S m w l s r e) held))
+    effect-keeps s = by-effect S m w l s (λ e. P (e .source))
+        (λ r. released-keeps (S .release (s .token .0) (m .source)) (keeps .releases (s .token .0) (m .source) held))
+        (λ r. held)
+        (λ r. taken-keeps s (S .take (m .source)) (keeps .takes (m .source) held))
+        (λ r. held)
 
     left-keeps : {c : Chosen X} → Outcome S m w l (effect S m w l (slotOf m l)) c → P (c .machine .source)
-    left-keeps (refused n) = held
+    left-keeps (turned-down n) = held
     left-keeps (made falls ok) = effect-keeps (slotOf m l)
 
     pub choose-keeps : P (choose S m w l .machine .source)
