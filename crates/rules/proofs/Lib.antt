@@ -2,10 +2,11 @@
 pub mod lists
 -- the plain sheet;
 pub mod sheet
--- the pipeline over any source of tokens: how a run is accounted for, the invariant, one choice, and whole runs;
+-- the pipeline over any source of tokens: how a run is accounted for, the invariant, one choice;
 pub mod standing
 pub mod invariant
 pub mod choices
-pub mod runs
--- and related sources give related runs.
+-- related sources give related runs;
 pub mod sources
+-- and whole runs.
+pub mod runs

@@ -20,8 +20,8 @@ pub mod OneLineEach
 pub mod LineAnswers
 -- the theorem: all of `WholeRun`;
 pub mod WholeRuns
--- the accepted choices by themselves;
-pub mod AcceptedAlone
+-- the accepted choices of a list, by themselves;
+pub mod AcceptedOnly
 -- the same choices under a larger limit;
 pub mod MoreWorkers
 -- and two choices in either order.

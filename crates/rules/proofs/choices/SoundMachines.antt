@@ -67,11 +67,11 @@ module _ {X : Type 0} (S : Source X) (m : Machine X) (ok : sound S m ≡ true) w
   manned l h r = ltb-true (slotOf m l .worker .0) (m .workers)
       (rw r at (first-holds (workerSound (m .workers) (slotOf m l)) _ (slot-ok l (omega (arith, lines-most)))))
 
-  -- the pipe of each line is one of the plan's
-  pub pipe-in : (l : ℕ) → l < m .lines → slotOf m l .pipe .0 < m .pipes
+  -- each line is at a pipe of the plan
+  pub pipe-in : (l : ℕ) → l < 32 → slotOf m l .pipe .0 < m .pipes
   unfolding slotSound isIdle isLoaded
   pipe-in l h =
-      let ok-here = rest-hold (workerSound (m .workers) (slotOf m l)) _ (slot-ok l (omega (arith, lines-most))) in
+      let ok-here = rest-hold (workerSound (m .workers) (slotOf m l)) _ (slot-ok l h) in
       elim (see (isIdle (slotOf m l))) [
         | holds i ↦ omega (arith, pipes-some, eqb-true (slotOf m l .pipe .0) 0 (first-holds (eqb (slotOf m l .pipe .0) 0) _ (rest-hold (not (slotOf m l .running)) _ i)))
         | fails i ↦ ltb-true (slotOf m l .pipe .0) (m .pipes) (first-holds (ltb (slotOf m l .pipe .0) (m .pipes)) _

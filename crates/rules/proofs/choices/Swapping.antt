@@ -13,13 +13,14 @@ use Rattle.vocabulary.specs.declared.Slots.{Slots}
 use Rattle.rules.specs.Lists.{Every}
 use Rattle.rules.specs.Sources.{Source}
 use Rattle.rules.specs.RunState.{Machine, putSlot, slotOf, counterAt, counterOf, isSerial}
+use Rattle.rules.specs.Ranges.{sound}
 use Rattle.rules.specs.Choices.{Choice, Chosen, withPlace, next, fall, chooseBy, answers, follow}
 use Rattle.rules.specs.WholeRuns.{Accepted}
 use Rattle.rules.specs.Swapping.{Swapped}
 use Rattle.rules.proofs.lists.Tests.{same, other, sameAs, by-test}
 use Rattle.rules.proofs.lists.SlotRows.{put-other, put-swap}
 use Rattle.rules.proofs.standing.Finish.{next-lt}
-use Rattle.rules.proofs.choices.SoundMachines.{pipes-most, pipe-in}
+use Rattle.rules.proofs.choices.SoundMachines.{pipes-most, lines-most, pipe-in}
 use Rattle.rules.proofs.choices.Accepting.{accepted-sound, accepted-line, accepted-due}
 use Rattle.rules.proofs.choices.Outcomes.{Effect, enterEffect, effect, starts, finishes}
 use Rattle.rules.proofs.choices.Outcomes.{fallIf, countersBy, counters-start, counters-finish, NextCanFall, did, accepted-choice}
@@ -113,11 +114,13 @@ module _ {X : Type 0} (S : Source X) (m : Machine X) where
 
   -- a line whose choice is accepted may move
   may-move : (c : Choice) → Accepted (chooseBy S m c .answer) → MayMove m (c .line) (slotOf m (c .line))
-  may-move c ok = record {
-    at = pipe-in S m (accepted-sound S m (c .worker) (c .line) ok) (c .line) (accepted-line S m (c .worker) (c .line) ok);
-    fills = accepted-due S m (c .worker) (c .line) ok;
-    falls = accepted-choice S m (c .worker) (c .line) ok .0;
-  }
+  may-move c ok =
+      let ranges : sound S m ≡ true = accepted-sound S m (c .worker) (c .line) ok in
+      record {
+        at = pipe-in S m ranges (c .line) (omega (arith, accepted-line S m (c .worker) (c .line) ok, lines-most S m ranges));
+        fills = accepted-due S m (c .worker) (c .line) ok;
+        falls = accepted-choice S m (c .worker) (c .line) ok .0;
+      }
 
   module _ (a b : Choice) (apart : a .line ≡ b .line → ⊥) (one-way : Every Accepted (answers S m (a ∷ b ∷ []))) (other-way : Every Accepted (answers S m (b ∷ a ∷ []))) where
     -- the two lines' slots, and what their choices make
@@ -134,7 +137,7 @@ module _ {X : Type 0} (S : Source X) (m : Machine X) where
     y = effect S m (b .worker) (b .line) t
 
     module _ (later : eqb (s .pipe .0) 0 ≡ false) where
-      -- the first line is past pipe 0
+      -- the first line is past pipe 0: what each choice leaves, made first
       abbrev after-a : Machine X
       after-a = withPlace m (countersBy m (a .line) s (m .counters)) (putSlot (m .slots) (a .line) (x .slot)) (m .placed) (m .stopped) (m .source)
 
@@ -184,7 +187,7 @@ module _ {X : Type 0} (S : Source X) (m : Machine X) where
             ∙ sym (ap (λ (c : Chosen X). chooseBy S (c .machine) b .answer) a-first ∙ ap (λ (c : Chosen X). c .answer) b-second);
       }
 
-  -- two choices on different lines that are not both at pipe 0
+  -- two choices on different lines that are not both at pipe 0, accepted in both orders
   pub swapped-past : (a b : Choice) → (a .line ≡ b .line → ⊥) → Every Accepted (answers S m (a ∷ b ∷ [])) → Every Accepted (answers S m (b ∷ a ∷ [])) →
       (slotOf m (a .line) .pipe .0 ≡ 0 → slotOf m (b .line) .pipe .0 ≡ 0 → ⊥) → Swapped S m a b
   swapped-past a b apart one-way other-way n = elim (sameAs (slotOf m (a .line) .pipe .0) 0) [

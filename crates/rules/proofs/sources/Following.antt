@@ -21,7 +21,7 @@ use Rattle.rules.proofs.lists.Tests.{by-test}
 use Rattle.rules.proofs.choices.Outcomes.{workers-kept}
 
 module _ {X Y : Type 0} (f : X → Y) where
-  -- the same run with another W, and with the source by the map; and such a choice
+  -- the same run with another W, and with the source by the map; and what a choice there returns and leaves
   abbrev pub machineAs : ℕ → Machine X → Machine Y
   machineAs workers m = withWorkers workers (mapMachine f m)
 
@@ -29,7 +29,7 @@ module _ {X Y : Type 0} (f : X → Y) where
   chosenAs workers c = record { answer = c .answer; machine = machineAs workers (c .machine) }
 
   module _ (m : Machine X) where
-    -- the tests of a machine look neither at W nor at its source
+    -- whether a run has ended depends neither on W nor on its source
     movable-as : (workers n : ℕ) → movable (machineAs workers m) n ≡ movable m n
     unfolding movable
     movable-as workers zero = refl

@@ -4,7 +4,7 @@ use mathlib.Core.Bool.{Bool, true, false, not}
 use mathlib.Core.List.{List}
 use Prim.Native.Nat.{ℕ, zero, suc, _+_, _*_, _<_, _≤_}
 use native.Mathlib.Omega.{arith}
-use borrow.Author.Tests.{ltb-true, lt-ltb, eqb-true}
+use borrow.Author.Tests.{lt-ltb}
 use lib.Dec.{ltb, eqb}
 use lib.ListN.{getD}
 use Rattle.rules.specs.Lists.{if, every}
@@ -12,7 +12,7 @@ use Rattle.vocabulary.specs.declared.Slot.{Slot}
 use Rattle.vocabulary.specs.declared.Slots.{Slots}
 use Rattle.rules.specs.RunState.{slotAt}
 use Rattle.rules.specs.Choices.{movable, ended}
-use Rattle.rules.specs.Ranges.{isIdle, isLoaded, workerSound, slotSound, sound}
+use Rattle.rules.specs.Ranges.{sound}
 use Rattle.tables.specs.Calls.{memorySource}
 use Rattle.state.specs.declared.State.{State}
 use Rattle.state.specs.declared.Figures.{Figures}
@@ -20,25 +20,12 @@ use Rattle.state.specs.Machines.{slotsOf, machineOf}
 use Rattle.state.specs.Ending.{isStill, overOf, endedOf}
 use Rattle.state.specs.Machines.{whole, Ready}
 use Rattle.rules.proofs.lists.Tests.{by-test}
-use Rattle.rules.proofs.lists.Holding.{first-holds, rest-hold}
-use Rattle.rules.proofs.choices.SoundMachines.{slot-ok, pipes-some}
+use Rattle.rules.proofs.choices.SoundMachines.{pipe-in}
 use Rattle.rules.proofs.choices.SoundMachines.{pipes-most as most-pipes, lines-most as most-lines}
 
 -- a line's slot
 abbrev slotIn : State → ℕ → Slot
 slotIn s l = slotAt (slotsOf s) l
-
-module _ (slot : Slot) where
-  -- an idle slot is at pipe 0
-  idle-pipe : isIdle slot ≡ true → slot .pipe .0 ≡ 0
-  unfolding isIdle
-  idle-pipe e = eqb-true (slot .pipe .0) 0 (first-holds (eqb (slot .pipe .0) 0) _ (rest-hold (not (slot .running)) _ e))
-
-  -- a loaded slot is at a pipe below P
-  loaded-pipe : (pipes tokens : ℕ) → isLoaded pipes tokens slot ≡ true → slot .pipe .0 < pipes
-  unfolding isLoaded
-  loaded-pipe pipes tokens e =
-      ltb-true (slot .pipe .0) pipes (first-holds (ltb (slot .pipe .0) pipes) _ (rest-hold (if (slot .running) true (ltb 0 (slot .pipe .0))) _ e))
 
 module _ (s : State) (mem : List ℕ) (ok : sound memorySource (machineOf s mem) ≡ true) where
   pub lines-most : s .lines ≤ 32
@@ -51,15 +38,8 @@ module _ (s : State) (mem : List ℕ) (ok : sound memorySource (machineOf s mem)
 
   -- each line is at a pipe of the plan
   pipe-less : (l : ℕ) → l < 32 → slotIn s l .pipe .0 < s .pipes
-  unfolding slotSound machineOf
-  pipe-less l h =
-      let slot : Slot = slotIn s l in
-      let e : slotSound (s .pipes) (s .lines) (s .tables .tokens) (s .workers) (slotsOf s) l ≡ true = slot-ok memorySource (machineOf s mem) ok l h in
-      by-test (isIdle slot)
-      (λ i. let z : slot .pipe .0 ≡ 0 = idle-pipe slot i in omega (arith, pipes-some memorySource (machineOf s mem) ok))
-      (λ i. loaded-pipe slot (s .pipes) (s .tables .tokens)
-      (first-holds (isLoaded (s .pipes) (s .tables .tokens) slot) _
-      (rest-hold (ltb l (s .lines)) _ (rw i at (rest-hold (workerSound (s .workers) slot) _ e)))))
+  unfolding machineOf
+  pipe-less l h = pipe-in memorySource (machineOf s mem) ok l h
 
   -- no line below n can move
   still-lines : (n : ℕ) → n ≤ s .lines → every n (isStill (s .counters) (slotsOf s)) ≡ not (movable (machineOf s mem) n)
