@@ -93,19 +93,25 @@ module _ {file : List ℕ} (bytes : Bytes file) where
     pub run-of : (p : Plan) → Valid p → file ≡ encode p → RunOf p s
     run-of p valid file-is = subst (λ q. RunOf q s) (one-plan (here .plan) p (here .valid) valid (sym (here .file-is) ∙ file-is)) run-here
 
-  -- the end states of two sessions
+  -- what two sessions left, by what runs of their plan leave
   module _ {w v : ℕ} {m k : List ℕ} {cs ds : List Choice} (s : Session file w m cs) (t : Session file v k ds) where
-    one-end : endedOf (s .state) ≡ true → endedOf (t .state) ≡ true → SameEnd (s .state) (s .memory) (t .state) (t .memory)
+    abbrev p : Plan
+    p = here s .plan
+
+    -- the second session as a run of the first one's plan
+    pub run-there : RunOf p t
+    run-there = run-of t p (here s .valid) (here s .file-is)
+
+    pub same-left : endState (left p m w cs) ≡ endState (left p k v ds) → SameEnd (s .state) (s .memory) (t .state) (t .memory)
     unfolding machineOf
-    one-end e f =
-        let a = here s in
-        let r = run-here s in
-        let q = run-of t (a .plan) (a .valid) (a .file-is) in
+    same-left e =
         let same : endState (machineOf (s .state) (s .memory)) ≡ endState (machineOf (t .state) (t .memory)) =
-        ap endState (r .left-is)
-        ∙ a .demands .same-end m k w v (a .manned) (here t .manned) cs ds (sym (r .ended-is) ∙ e) (sym (q .ended-is) ∙ f)
-        ∙ ap endState (sym (q .left-is)) in
+        ap endState (run-here s .left-is) ∙ e ∙ ap endState (sym (run-there .left-is)) in
         record { states = ap stateOf same; memories = ap (λ a. a .source .1) same }
+
+    one-end : endedOf (s .state) ≡ true → endedOf (t .state) ≡ true → SameEnd (s .state) (s .memory) (t .state) (t .memory)
+    one-end e f = same-left
+        (here s .demands .same-end m k w v (here s .manned) (here t .manned) cs ds (sym (run-here s .ended-is) ∙ e) (sym (run-there .ended-is) ∙ f))
 
   -- every session is as the demands say
   pub code-demands : {workers : ℕ} {m : List ℕ} {cs : List Choice} (s : Session file workers m cs) → CodeDemands s

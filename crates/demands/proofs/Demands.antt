@@ -86,7 +86,7 @@ module _ (p : Plan) (valid : Valid p) (m : List ℕ) where
   memory-sheet = as-sheet (writes-map memory-side (pair-writes .2))
 
   module _ (workers : ℕ) (manned : WorkersInRange workers) (cs : List Choice) where
-    pub run : WholeRun memorySource (pipelineOf p) workers (begun p m) cs (order p) last
+    run : WholeRun memorySource (pipelineOf p) workers (begun p m) cs (order p) last
     run = whole-run (ranged valid) manned memory-sheet cs
 
     -- demand 2
@@ -96,7 +96,7 @@ module _ (p : Plan) (valid : Valid p) (m : List ℕ) where
     pair-unspoiled : Every (λ a. a ≡ Refused 14 → ⊥) (answers pair pair-opened cs)
     pair-unspoiled = whole-run (ranged valid) manned (as-sheet (pair-writes .2)) cs .never-spoiled
 
-    pub same-answers : told p m workers cs ≡ answers (plainSource (p .tokens) (numbers p)) (opened (pipelineOf p) workers rules.opened) cs
+    same-answers : told p m workers cs ≡ answers (plainSource (p .tokens) (numbers p)) (opened (pipelineOf p) workers rules.opened) cs
     unfolding opened memorySide ruleSide
     same-answers =
         answers-map memory-side pair-opened cs pair-unspoiled
@@ -176,7 +176,7 @@ module _ (p : Plan) (valid : Valid p) where
   memory-lent m workers cs = follow-keeps (length-kept _) (opened (pipelineOf p) workers (begun p m)) (length-laid valid m) cs
 
   module _ (m : List ℕ) (workers : ℕ) (manned : WorkersInRange workers) (cs : List Choice) where
-    pub kept-beyond : left p m workers cs ≡ mapMachine (beyond (drop 32768 m)) (left p [] workers cs)
+    kept-beyond : left p m workers cs ≡ mapMachine (beyond (drop 32768 m)) (left p [] workers cs)
     unfolding opened memorySide
     kept-beyond =
         let r : List ℕ = drop 32768 m in

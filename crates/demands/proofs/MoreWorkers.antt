@@ -1,43 +1,30 @@
 -- A session's choices do the same under a larger limit.
 use mathlib.Core.Path.{_≡_, sym, ap, _∙_}
 use mathlib.Core.List.{List, []}
-use Prim.Native.Nat.{ℕ, _≤_, _<_}
+use Prim.Native.Nat.{ℕ, _≤_}
 use native.Mathlib.Omega.{arith}
-use lib.ListN.{drop}
+use lib.ListN.{length, drop}
 use Rattle.rules.specs.Lists.{Every}
 use Rattle.rules.specs.RunState.{Machine}
-use Rattle.rules.specs.Choices.{Choice, opened}
+use Rattle.rules.specs.Choices.{Choice, opened, ended}
 use Rattle.rules.specs.RelatedSources.{mapMachine}
-use Rattle.rules.specs.WholeRuns.{WorkersInRange, Accepted, withWorkers}
-use Rattle.rules.specs.MoreWorkers.{acceptedChoices, withoutRefusals}
-use Rattle.rules.proofs.runs.AcceptedAlone.{events-accepted}
-use Rattle.rules.proofs.runs.MoreWorkers.{alike, reused, accepted-reused}
+use Rattle.rules.specs.WholeRuns.{Accepted, withWorkers}
+use Rattle.rules.specs.MoreWorkers.{acceptedChoices, withoutRefusals, Known}
+use Rattle.rules.proofs.runs.AcceptedOnly.{events-accepted}
+use Rattle.rules.proofs.runs.MoreWorkers.{answered-alike as rules-alike, reused as rules-reused, accepted-reused as rules-accepted-reused}
 use Rattle.fields.specs.Bytes.{Bytes}
-use Rattle.plan.specs.Plan.{Plan, Valid}
+use Rattle.plan.specs.Plan.{Plan}
 use Rattle.tables.specs.State.{State}
 use Rattle.tables.specs.Calls.{memorySource}
 use Rattle.tables.specs.Matching.{beyond}
 use Rattle.loading.specs.Plans.{pipelineOf}
 use Rattle.state.specs.Machines.{machineOf}
-use Rattle.opening.specs.Opened.{stateOf}
-use Rattle.demands.specs.Demands.{begun, told, left, endState}
+use Rattle.demands.specs.Demands.{begun, told, left, endState, Shows}
 use Rattle.demands.specs.CodeRuns.{Session, eventsOf}
 use Rattle.demands.specs.MoreWorkers.{LeftAlike, Reused, AcceptedReused, AnsweredAlike, MoreWorkers}
-use Rattle.demands.proofs.Demands.{run, same-answers, plain-end, kept-beyond}
+use Rattle.demands.proofs.Demands.{plain-end}
 use Rattle.demands.proofs.Opens.{opens-exactly}
-use Rattle.demands.proofs.CodeRuns.{here, run-here, run-of}
-
--- a run of a plan in two memories: what was lent plays no part in the answers, the state and the first 32,768 numbers
-module _ {p : Plan} (valid : Valid p) {workers : ℕ} (manned : WorkersInRange workers) (m k : List ℕ) (cs : List Choice) where
-  lent-told : told p m workers cs ≡ told p k workers cs
-  lent-told = same-answers p valid m workers manned cs ∙ sym (same-answers p valid k workers manned cs)
-
-  lent-end : endState (left p m workers cs) ≡ endState (left p k workers cs)
-  lent-end = plain-end p valid m workers manned cs ∙ sym (plain-end p valid k workers manned cs)
-
-  lent-alike : drop 32768 m ≡ drop 32768 k → left p m workers cs ≡ left p k workers cs
-  lent-alike e =
-      kept-beyond p valid m workers manned cs ∙ ap (λ r. mapMachine (beyond r) (left p [] workers cs)) e ∙ sym (kept-beyond p valid k workers manned cs)
+use Rattle.demands.proofs.CodeRuns.{here, run-here, run-there, same-left}
 
 module _ {file : List ℕ} (bytes : Bytes file) {workers : ℕ} {m : List ℕ} {cs : List Choice} (s : Session file workers m cs) where
   abbrev p : Plan
@@ -47,59 +34,64 @@ module _ {file : List ℕ} (bytes : Bytes file) {workers : ℕ} {m : List ℕ} {
   abbrev begins : ℕ → Machine State
   begins w = opened (pipelineOf p) w (begun p m)
 
-  -- a session of the same file, by what that run does with its choices
-  module _ {more : ℕ} {k : List ℕ} {ds : List Choice} (t : Session file more k ds) where
-    told-as : eventsOf t ≡ told p m more ds
+  -- another session of the file, by what that run does with its choices: what was lent plays no part in the answers, the state and the
+  -- first 32,768 numbers
+  module _ {larger : ℕ} {k : List ℕ} {ds : List Choice} (t : Session file larger k ds) where
+    abbrev shown : (n : List ℕ) → 32768 ≤ length n → Shows p larger n ds (told p n larger ds) (left p n larger ds) (ended (left p n larger ds))
+    shown n enough = here bytes s .demands .runs n enough larger (here bytes t .manned) ds
+
+    told-as : eventsOf t ≡ told p m larger ds
     told-as =
-        run-of bytes t p (here bytes s .valid) (here bytes s .file-is) .events-are
-        ∙ lent-told (here bytes s .valid) (here bytes t .manned) k m ds
+        run-there bytes s t .events-are
+        ∙ shown k (here bytes t .enough) .answers-as-rules ∙ sym (shown m (here bytes s .enough) .answers-as-rules)
 
-    left-as : left p m more ds ≡ withWorkers more (left p m workers cs) → LeftAlike s t
+    lent : (n : List ℕ) → left p n larger ds ≡ mapMachine (beyond (drop 32768 n)) (left p [] larger ds)
+    lent n = here bytes s .demands .whatever-lent n larger (here bytes t .manned) ds
+
+    left-as : left p m larger ds ≡ withWorkers larger (left p m workers cs) → LeftAlike s t
     unfolding machineOf
-    left-as e =
-        let r = run-here bytes s .left-is in
-        let q = run-of bytes t p (here bytes s .valid) (here bytes s .file-is) .left-is in
-        let same : endState (machineOf (s .state) (s .memory)) ≡ endState (machineOf (t .state) (t .memory)) =
-        ap endState r ∙ sym (ap endState e) ∙ lent-end (here bytes s .valid) (here bytes t .manned) m k ds ∙ ap endState (sym q) in
-        record {
-          end = record { states = ap stateOf same; memories = ap (λ a. a .source .1) same };
-          numbers = λ beyond-same. ap (λ (a : Machine State). a .source .1)
-              (ap (withWorkers more) r ∙ sym e ∙ lent-alike (here bytes s .valid) (here bytes t .manned) m k ds beyond-same ∙ sym q);
-        }
+    left-as e = record {
+      end = same-left bytes s t (sym (ap endState e)
+          ∙ plain-end p (here bytes s .valid) m larger (here bytes t .manned) ds ∙ sym (plain-end p (here bytes s .valid) k larger (here bytes t .manned) ds));
+      numbers = λ beyond-same. ap (λ (a : Machine State). a .source .1)
+          (ap (withWorkers larger) (run-here bytes s .left-is) ∙ sym e
+          ∙ lent m ∙ ap (λ r. mapMachine (beyond r) (left p [] larger ds)) beyond-same ∙ sym (lent k) ∙ sym (run-there bytes s t .left-is));
+    }
 
-  module _ {more : ℕ} {k : List ℕ} (t : Session file more k cs) (larger : workers ≤ more) where
-    same-choices : Every (λ c. c .worker < workers) cs → AnsweredAlike s t
+  -- one with the session's choices
+  module _ {larger : ℕ} {k : List ℕ} (t : Session file larger k cs) (more : workers ≤ larger) where
+    alike : Every (Known workers) cs → AnsweredAlike s t
     unfolding opened
-    same-choices known =
-        let r = alike memorySource more (here bytes t .manned .most) (begins workers) larger cs known
-        (run p (here bytes s .valid) m workers (here bytes s .manned) cs .never-spoiled) in
+    alike known =
+        let r = rules-alike memorySource larger (here bytes t .manned .most) (begins workers) more cs known
+        (here bytes s .demands .runs m (here bytes s .enough) workers (here bytes s .manned) cs .never-spoiled) in
         record { told = told-as t ∙ r .told ∙ sym (run-here bytes s .events-are); left = left-as t (r .left) }
 
-    all-reused : Every Accepted (eventsOf s) → Reused s t
+    reuse : Every Accepted (eventsOf s) → Reused s t
     unfolding opened
-    all-reused accepted =
-        let r = reused memorySource more (here bytes t .manned .most) (begins workers) larger cs (rw (run-here bytes s .events-are) at accepted) in
+    reuse accepted =
+        let r = rules-reused memorySource larger (here bytes t .manned .most) (begins workers) more cs (rw (run-here bytes s .events-are) at accepted) in
         let events : eventsOf t ≡ eventsOf s = told-as t ∙ r .events ∙ sym (run-here bytes s .events-are) in
         record { accepted = rw events accepted; events = events; left = left-as t (r .left) }
 
-  -- one with those that were accepted
-  those-reused : {more : ℕ} {k : List ℕ} (t : Session file more k (acceptedChoices cs (eventsOf s))) → workers ≤ more → AcceptedReused s t
+  -- one with those of them that were accepted
+  reuse-accepted : {larger : ℕ} {k : List ℕ} (t : Session file larger k (acceptedChoices cs (eventsOf s))) → workers ≤ larger → AcceptedReused s t
   unfolding opened
-  those-reused {more} t larger =
-      let r = accepted-reused memorySource more (here bytes t .manned .most) (begins workers) larger cs in
+  reuse-accepted {larger} t more =
+      let r = rules-accepted-reused memorySource larger (here bytes t .manned .most) (begins workers) more cs in
       let same : eventsOf s ≡ told p m workers cs = run-here bytes s .events-are in
       let events : eventsOf t ≡ withoutRefusals (eventsOf s) = told-as t ∙ rw same (r .events) in
       record { accepted = rw events (events-accepted (eventsOf s)); events = events; left = left-as t (rw same (r .left)) }
 
-  -- so every session
+  -- every session
   pub more-workers : MoreWorkers s
   more-workers =
       let a = here bytes s in
       record {
-        opens = λ more larger most k enough o k′ called.
+        opens = λ larger more most k enough o k′ called.
             ap (λ o. o .answer) (called .0)
-            ∙ opens-exactly file bytes more k .1 (a .plan, a .valid, a .file-is, record { some = omega (arith, a .manned .some); most = most }, enough);
-        reused = λ accepted t larger. all-reused t larger accepted;
-        accepted-reused = λ t larger. those-reused t larger;
-        alike = λ known t larger. same-choices t larger known;
+            ∙ opens-exactly file bytes larger k .1 (a .plan, a .valid, a .file-is, record { some = omega (arith, a .manned .some); most = most }, enough);
+        reused = λ accepted t more. reuse t more accepted;
+        accepted-reused = λ t more. reuse-accepted t more;
+        answered-alike = λ known t more. alike t more known;
       }

@@ -74,7 +74,8 @@ butWorkers s = record {
 abbrev pub eventsOf : {file : List ℕ} {workers : ℕ} {lent : List ℕ} {choices : List Choice} → Session file workers lent choices → List rules.Answer
 eventsOf s = map answerOf (s .answers)
 
--- "The end state is the state and the first 32,768 numbers": two sessions have left the same one, but for W
+-- "The end state is the state and the first 32,768 numbers": two sessions have left the same one, but for W. It is said too of sessions
+-- that have not ended (MoreWorkers.antt).
 pub record SameEnd (s : State) (m : List ℕ) (t : State) (k : List ℕ) : Type 0 where
   pub states : butWorkers s ≡ butWorkers t
   pub memories : take 32768 m ≡ take 32768 k
