@@ -63,6 +63,8 @@ def orders():
     # 26 and 12 before the first start, 26 for another worker's finish, 13 for a busy worker, 10.
     choices = [(2, 0), (0, 1), (0, 0), (1, 0), (0, 0), (0, 0), (0, 1), (1, 1), (0, 2)]
     yield "backwards.refused", "backwards", program_input(2, choices)
+    # With refused choices left in, a larger hall lets worker 2 in, and the rest goes another way.
+    yield "backwards.refused-more", "backwards", program_input(3, choices)
 
 
 def files():

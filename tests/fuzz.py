@@ -5,8 +5,10 @@
 Each case is a plan file and an input in a folder of its own. The first
 difference is written out in hexadecimal and ends the comparison with 1.
 
-In some cases the program runs again on the choices that it accepted: under a
-larger limit, and with neighbours exchanged.
+In some cases the program runs again: on the choices that it accepted, under a
+larger limit and with neighbours swapped; and on the whole input under a larger
+limit, if all its workers are below W. A long run in which one of these never came
+ends with 1, too.
 """
 
 import argparse
@@ -31,7 +33,12 @@ from run import MOST_WORKERS, Run
 LONGEST_ANSWER = 120
 
 REUSED = "reused under a larger limit"
-EXCHANGED = "neighbours exchanged"
+SWAPPED = "neighbours swapped"
+ALIKE = "lists answered alike"
+KINDS = (REUSED, SWAPPED, ALIKE)
+
+# More cases than these try each kind; if not, the fault is here.
+ENOUGH_CASES = 1000
 
 
 def random_plan(chance):
@@ -99,8 +106,10 @@ def random_choices(chance, plan, workers, most):
     if manner == 2:
         return [(chance.below(256), chance.below(256)) for _ in range(chance.between(0, 50))]
     if manner < 5:
-        return with_far_ones(chance, plan, workers, any_worker_list(chance, plan, workers, most))
-    choices = makers.allowed_list(chance, plan, workers, most, strays=chance.pick([0, 2, 6, 20]))
+        choices = any_worker_list(chance, plan, workers, most)
+    else:
+        strays = chance.pick([0, 2, 6, 20])
+        choices = makers.allowed_list(chance, plan, workers, most, strays=strays)
     return with_far_ones(chance, plan, workers, choices) if chance.one_in(2) else choices
 
 
@@ -223,11 +232,11 @@ def takes_both(run, first, second):
     return not ahead.refusal(*second)
 
 
-def exchanged(chance, plan, workers, accepted):
-    """The list with some neighbours exchanged, and how often that was done.
+def swapped(chance, plan, workers, accepted):
+    """The list with some neighbours swapped, and how often that was done.
 
     They are on different lines, and the second implementation accepts them in
-    the other order, too. One of the two may be exchanged again with the next.
+    the other order, too. One of the two may be swapped again with the next.
     """
     run = Run(plan, workers)
     often = max(2, len(accepted) // 40)
@@ -242,6 +251,15 @@ def exchanged(chance, plan, workers, accepted):
     return accepted, many
 
 
+def answered_alike(stdin, lines):
+    """Whether a larger limit must change no answer, with a refused one among them.
+
+    Only a worker of W or more can be let in by it.
+    """
+    refused = any(line.startswith(b"R") for line in lines)
+    return refused and all(worker < stdin[0] for worker, _ in zip(stdin[1::2], stdin[2::2]))
+
+
 def made_of(workers, accepted, last):
     """An input with these choices alone, and the text of their lines."""
     stdin = makers.program_input(workers, [choice for choice, _ in accepted])
@@ -251,20 +269,23 @@ def made_of(workers, accepted, last):
 def runs_again(chance, data, stdin, text):
     """Request 2.12: kind, how much it counts, an input and what must be printed.
 
-    Made of a case's own accepted choices and lines, in one case of four, and of
-    the long ones in one of forty.
+    Made of a case's own choices and lines, in one case of four, and of the long
+    ones in one of forty.
     """
     *lines, last = text.split(b"\n")[:-1]
     if last.startswith(b"R") or not chance.one_in(4 if len(stdin) < 2000 else 40):
         return
     workers = stdin[0]
     accepted = accepted_of(stdin, lines)
-    if accepted and workers < MOST_WORKERS:
+    if lines and workers < MOST_WORKERS:
         larger = chance.between(workers + 1, MOST_WORKERS)
-        yield (REUSED, 1, *made_of(larger, accepted, last))
-    accepted, many = exchanged(chance, plan_file.read(data), workers, accepted)
+        if accepted:
+            yield (REUSED, 1, *made_of(larger, accepted, last))
+        if answered_alike(stdin, lines):
+            yield ALIKE, 1, bytes([larger]) + stdin[1:], text
+    accepted, many = swapped(chance, plan_file.read(data), workers, accepted)
     if many:
-        yield (EXCHANGED, many, *made_of(workers, accepted, last))
+        yield (SWAPPED, many, *made_of(workers, accepted, last))
 
 
 def count_up(figures, stdin, expected):
@@ -297,6 +318,7 @@ def summary(figures):
     def by_number(kind, numbers):
         return " ".join(f"{number}:{figures[kind, number]}" for number in numbers)
 
+    again = "; ".join(f"{kind} {figures[kind]}" for kind in KINDS)
     return (
         f"cases {figures['cases']}; accepted plans {figures['accepted plans']};"
         f" refused plans {by_number('plans', range(1, 8))};"
@@ -307,8 +329,15 @@ def summary(figures):
         f" 26 for W or more {figures['26 beyond W']}, for another worker {figures['26 another']};"
         f" lone last bytes {figures['lone last bytes']}; no choice {figures['no choice']};"
         f" W none:{figures['W', None]} {by_number('W', [0, 1, 32, 33])} above:{figures['W', 34]};"
-        f" {REUSED} {figures[REUSED]}; {EXCHANGED} {figures[EXCHANGED]}"
+        f" {again}"
     )
+
+
+def never_tried(figures):
+    """The kinds that should have come by now and did not."""
+    if figures["cases"] <= ENOUGH_CASES:
+        return []
+    return [kind for kind in KINDS if not figures[kind]]
 
 
 def compare(wanted, folder, figures):
@@ -323,9 +352,9 @@ def compare(wanted, folder, figures):
             return False
         count_up(figures, stdin, expected)
         for kind, many, again, lines in runs_again(chance, data, stdin, expected):
+            figures[kind] += many
             if differs(wanted, folder, figures["cases"], data, again, lines, kind):
                 return False
-            figures[kind] += many
     return True
 
 
@@ -341,7 +370,10 @@ def main():
     with tempfile.TemporaryDirectory() as folder:
         same = compare(wanted, folder, figures)
     print(summary(figures))
-    return 0 if same else 1
+    missing = never_tried(figures)
+    if missing:
+        print("never tried: " + ", ".join(missing))
+    return 0 if same and not missing else 1
 
 
 if __name__ == "__main__":

@@ -642,9 +642,11 @@ class MoreWorkers(unittest.TestCase):
             larger = range(workers, MOST_WORKERS + 1)
             for choices in self.lists(chance, plan, workers):
                 accepted, many = self.check_reuse(plan, workers, choices, larger)
-                whole += accepted == many
+                # With one worker named, a larger hall is hardly a question.
+                named = {worker for worker, _ in choices}
+                whole += accepted == many and len(named) > 1
                 parts += 0 < accepted < many
-        self.assertGreaterEqual(whole, 100)
+        self.assertGreater(whole, 40)
         self.assertGreater(parts, 200)
 
     def test_reuse_on_many_lines(self):
