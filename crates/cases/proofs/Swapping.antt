@@ -10,7 +10,7 @@ use Rattle.rules.specs.Ranges.{numbersSound, isIdle, isLoaded, workerSound, slo
 use Rattle.rules.specs.Choices.{Choice, opened, openedCounter, tabled, move, start, startFirst, startLater}
 use Rattle.rules.specs.Choices.{finish, finishFirst, finishWith, settle, fall, ended, movable, atWork}
 use Rattle.cases.specs.LinesAlone.{by}
-use Rattle.cases.specs.Swapping.{sourceOf, begun, outOfTurn, records, starting, running, finishing, readyAfter, Worked}
+use Rattle.cases.specs.Swapping.{sourceOf, begun, outOfTurn, records, starting, running, finishing, readyAfter, Swaps}
 use Rattle.cases.proofs.QuickRuns.{walked, countersWalked, quickSound, quickChoose, quickFollow, quick-follow, quickAnswers, quick-answers}
 use Rattle.cases.proofs.MoreWorkers.{quick, quick-told}
 
@@ -37,12 +37,12 @@ unfolding readyAfter
 quick-ready cs = ap (λ (m : Machine Tables). m .source .ready)
     (quick-follow (sourceOf 4 records) running cs ∙ ap (λ m. quickFollow (sourceOf 4 records) m cs) quick-running)
 
-pub worked : Worked
+pub swaps-hold : Swaps
 unfolding quick quickRunning quickAnswers quickFollow quickChoose quickSound countersWalked walked
     tables.take takeFrom takeNew release isDue keep has empty numbersOf
     opened openedCounter tabled table move start startFirst startLater finish finishFirst finishWith settle
     fall ended movable atWork numbersSound within isIdle isLoaded workerSound slotSound mostAt serialSound every slotAt putSlot allIdle
-worked = record {
+swaps-hold = record {
   swapped = quick-told 2 _;
   starts = quick-starting _;
   starts-swapped = quick-starting _;

@@ -49,7 +49,7 @@ inTurn =
     Started 0 0 0 0 0 ∷ Finished 0 0 0 0 0 ∷ Started 0 1 0 0 0 ∷
     Started 1 0 1 1 1 ∷ Finished 1 0 1 1 1 ∷ Refused 12 ∷ Refused 12 ∷ []
 
-pub record Worked : Type 0 where
+pub record Overtaking : Type 0 where
   pub named : practised false ≡ chosen
   pub parallel : answered false ≡ overtaken
   pub serial : answered true ≡ inTurn

@@ -41,7 +41,7 @@ finishing choices = answers (sourceOf 4 records) running choices
 unfoldable pub readyAfter : List Choice → List ℕ
 readyAfter choices = follow (sourceOf 4 records) running choices .source .ready
 
-pub record Worked : Type 0 where
+pub record Swaps : Type 0 where
   -- in the example of lines listed alone the third and the fourth choice change places: each has the same event, and so have those after
   pub swapped : told 2 (by 0 0 ∷ by 0 0 ∷ by 1 1 ∷ by 0 0 ∷ by 1 1 ∷ by 1 1 ∷ by 1 1 ∷ []) ≡
       Started 0 0 0 0 0 ∷ Finished 0 0 0 0 0 ∷ Started 1 0 1 1 1 ∷ Started 0 1 0 0 0 ∷

@@ -7,7 +7,7 @@ use native.Mathlib.Omega.{arith}
 use lib.Dec.{eqb}
 use Rattle.vocabulary.specs.declared.Slot.{Slot}
 use Rattle.vocabulary.specs.declared.Slots.{Slots}
-use Rattle.rules.specs.RunState.{Pipeline, Machine, runs, allIdle, slotAt, putSlot, slotOf}
+use Rattle.rules.specs.RunState.{Pipeline, Machine, allIdle, slotAt, putSlot, slotOf}
 use Rattle.rules.specs.Sources.{Source, Taken, Spoiled, Nothing, Took}
 use Rattle.rules.specs.Choices.{Choice, Chosen, atWork, moved, opened, choose, follow}
 use Rattle.rules.specs.Workers.{OneLineEach}
