@@ -58,7 +58,7 @@ module _ {file : List ℕ} (bytes : Bytes file) {workers : ℕ} {m : List ℕ} {
           ∙ lent m ∙ ap (λ r. mapMachine (beyond r) (left p [] larger ds)) beyond-same ∙ sym (lent k) ∙ sym (run-there bytes s t .left-is));
     }
 
-  -- one with the session's choices
+  -- another session with the same choices
   module _ {larger : ℕ} {k : List ℕ} (t : Session file larger k cs) (more : workers ≤ larger) where
     alike : Every (Known workers) cs → AnsweredAlike s t
     unfolding opened
@@ -74,7 +74,7 @@ module _ {file : List ℕ} (bytes : Bytes file) {workers : ℕ} {m : List ℕ} {
         let events : eventsOf t ≡ eventsOf s = told-as t ∙ r .events ∙ sym (run-here bytes s .events-are) in
         record { accepted = rw events accepted; events = events; left = left-as t (r .left) }
 
-  -- one with those of them that were accepted
+  -- another session with those of them that were accepted
   reuse-accepted : {larger : ℕ} {k : List ℕ} (t : Session file larger k (acceptedChoices cs (eventsOf s))) → workers ≤ larger → AcceptedReused s t
   unfolding opened
   reuse-accepted {larger} t more =
@@ -83,7 +83,7 @@ module _ {file : List ℕ} (bytes : Bytes file) {workers : ℕ} {m : List ℕ} {
       let events : eventsOf t ≡ withoutRefusals (eventsOf s) = told-as t ∙ rw same (r .events) in
       record { accepted = rw events (events-accepted (eventsOf s)); events = events; left = left-as t (rw same (r .left)) }
 
-  -- every session
+  -- so of every session
   pub more-workers : MoreWorkers s
   more-workers =
       let a = here bytes s in

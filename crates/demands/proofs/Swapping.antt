@@ -46,6 +46,6 @@ module _ {file : List ℕ} (bytes : Bytes file) {workers : ℕ} {m : List ℕ} {
           event-b = cc (told-is, told-is′, by-rules .event-b);
         }
 
-  -- every session
+  -- so of every session
   pub swapping : Swapping s
   swapping = record { swapped = λ apart one-way other-way accepted accepted′. swapped-calls apart one-way other-way accepted accepted′ }
