@@ -13,7 +13,7 @@ use Rattle.rules.specs.WholeRuns.{WorkersInRange}
 use Rattle.rules.specs.Answers.{answerOf}
 use Rattle.vocabulary.specs.declared.answer.Answer.{Answer}
 use Rattle.vocabulary.specs.declared.refusal.Refusal.{Refusal}
-use Rattle.rules.proofs.lists.Tests.{by-test}
+use Rattle.rules.proofs.choices.Accepting.{unspoiled-sound}
 use Rattle.fields.specs.Bytes.{Bytes}
 use Rattle.plan.specs.Plan.{Plan, Valid, encode}
 use Rattle.plan.specs.Reading.{refused, readOf}
@@ -54,11 +54,9 @@ last-unspoiled a (d ∷ cs) c each = last-unspoiled (chooseBy memorySource a d .
 module _ {p : Plan} (demands : Demands p) (m : List ℕ) (enough : 32768 ≤ length m) {workers : ℕ} (manned : WorkersInRange workers) (cs : List Choice) where
   -- the numbers that a run leaves are in range: no choice after it gets 14
   left-sound : sound memorySource (left p m workers cs) ≡ true
-  unfolding choose
-  left-sound = by-test (sound memorySource (left p m workers cs))
-      (λ yes. yes)
-      (λ no. let c : Choice = record { worker = 0; line = 0 } in
-      absurd (last-unspoiled _ cs c (demands .runs m enough workers manned (cs ++ (c ∷ [])) .never-spoiled) (rw no)))
+  left-sound =
+      let c : Choice = record { worker = 0; line = 0 } in
+      unspoiled-sound memorySource (left p m workers cs) 0 0 (last-unspoiled _ cs c (demands .runs m enough workers manned (cs ++ (c ∷ [])) .never-spoiled))
 
 -- a session is one of this plan's runs
 pub record RunOf (p : Plan) {file : List ℕ} {workers : ℕ} {m : List ℕ} {cs : List Choice} (s : Session file workers m cs) : Type 0 where
