@@ -619,6 +619,15 @@ class MoreWorkers(unittest.TestCase):
         yield makers.random_list(chance, plan, workers, most, past=2)
         yield [(chance.below(workers + 2), chance.below(plan.lines + 1)) for _ in range(most)]
 
+    def tried(self, seed, many, limit, **sizes):
+        """Random plans, each with a limit and some lists."""
+        chance = Chance(seed)
+        for _ in range(many):
+            plan = makers.random_plan(chance, **sizes)
+            workers = limit(chance)
+            for choices in self.lists(chance, plan, workers):
+                yield plan, workers, choices
+
     def check_same(self, plan, larger, choices, run, answers):
         for workers in larger:
             again, there = events(plan, workers, choices)
@@ -633,40 +642,34 @@ class MoreWorkers(unittest.TestCase):
         return len(accepted), len(choices)
 
     def test_reuse(self):
-        chance = Chance(3005)
         whole = parts = 0
-        for _ in range(100):
-            plan = makers.random_plan(chance, pipes=3, lines=5, tokens=10)
-            workers = chance.pick([1, 1, 2, 3, 4, 31, chance.between(1, 31)])
+
+        def limit(chance):
+            return chance.pick([1, 1, 2, 3, 4, 31, chance.between(1, 31)])
+
+        for plan, workers, choices in self.tried(3005, 100, limit, pipes=3, lines=5, tokens=10):
             # W itself too: what is refused plays no part.
             larger = range(workers, MOST_WORKERS + 1)
-            for choices in self.lists(chance, plan, workers):
-                accepted, many = self.check_reuse(plan, workers, choices, larger)
-                # With one worker named, a larger hall is hardly a question.
-                named = {worker for worker, _ in choices}
-                whole += accepted == many and len(named) > 1
-                parts += 0 < accepted < many
+            accepted, many = self.check_reuse(plan, workers, choices, larger)
+            # With one worker named, a larger hall is hardly a question.
+            named = {worker for worker, _ in choices}
+            whole += accepted == many and len(named) > 1
+            parts += 0 < accepted < many
         self.assertGreater(whole, 40)
         self.assertGreater(parts, 200)
 
     def test_reuse_on_many_lines(self):
-        chance = Chance(3006)
-        for _ in range(20):
-            plan = makers.random_plan(chance, pipes=16, lines=32, tokens=60)
-            workers = chance.between(1, 31)
-            for choices in self.lists(chance, plan, workers):
-                self.check_reuse(plan, workers, choices, (workers + 1, MOST_WORKERS))
+        sizes = {"pipes": 16, "lines": 32, "tokens": 60}
+        for plan, workers, choices in self.tried(3006, 20, lambda chance: chance.between(1, 31), **sizes):
+            self.check_reuse(plan, workers, choices, (workers + 1, MOST_WORKERS))
 
     def test_refused_ones_that_more_workers_change(self):
         # Only those by a worker of W or more: 13 goes by the named worker alone.
-        chance = Chance(3007)
-        for _ in range(60):
-            plan = makers.random_plan(chance, pipes=3, lines=5, tokens=10)
-            workers = chance.between(1, 4)
-            for choices in self.lists(chance, plan, workers):
-                choices = [(worker % workers, line) for worker, line in choices]
-                run, answers = events(plan, workers, choices)
-                self.check_same(plan, (workers + 1, MOST_WORKERS), choices, run, answers)
+        sizes = {"pipes": 3, "lines": 5, "tokens": 10}
+        for plan, workers, choices in self.tried(3007, 60, lambda chance: chance.between(1, 4), **sizes):
+            choices = [(worker % workers, line) for worker, line in choices]
+            run, answers = events(plan, workers, choices)
+            self.check_same(plan, (workers + 1, MOST_WORKERS), choices, run, answers)
         plan = Plan([True], 1, 1)
         self.assertEqual(events(plan, 1, [(1, 0)])[1], [(REFUSED, 26)])
         self.assertEqual(events(plan, 2, [(1, 0)])[1], [(STARTED, 0, 0, 0, 0, 1)])

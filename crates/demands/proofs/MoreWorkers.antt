@@ -11,7 +11,7 @@ use Rattle.rules.specs.RelatedSources.{mapMachine}
 use Rattle.rules.specs.WholeRuns.{Accepted, withWorkers}
 use Rattle.rules.specs.MoreWorkers.{acceptedChoices, withoutRefusals, Known}
 use Rattle.rules.proofs.runs.AcceptedOnly.{events-accepted}
-use Rattle.rules.proofs.runs.MoreWorkers.{answered-alike as rules-alike, reused as rules-reused, accepted-reused as rules-accepted-reused}
+use Rattle.rules.proofs.runs.MoreWorkers.{more-workers as rules-more}
 use Rattle.fields.specs.Bytes.{Bytes}
 use Rattle.plan.specs.Plan.{Plan}
 use Rattle.tables.specs.State.{State}
@@ -63,14 +63,14 @@ module _ {file : List ℕ} (bytes : Bytes file) {workers : ℕ} {m : List ℕ} {
     alike : Every (Known workers) cs → AnsweredAlike s t
     unfolding opened
     alike known =
-        let r = rules-alike memorySource larger (here bytes t .manned .most) (begins workers) more cs known
+        let r = rules-more memorySource (begins workers) .answered-alike larger more (here bytes t .manned .most) cs known
         (here bytes s .demands .runs m (here bytes s .enough) workers (here bytes s .manned) cs .never-spoiled) in
         record { told = told-as t ∙ r .told ∙ sym (run-here bytes s .events-are); left = left-as t (r .left) }
 
     reuse : Every Accepted (eventsOf s) → Reused s t
     unfolding opened
     reuse accepted =
-        let r = rules-reused memorySource larger (here bytes t .manned .most) (begins workers) more cs (rw (run-here bytes s .events-are) at accepted) in
+        let r = rules-more memorySource (begins workers) .reused larger more (here bytes t .manned .most) cs (rw (run-here bytes s .events-are) at accepted) in
         let events : eventsOf t ≡ eventsOf s = told-as t ∙ r .events ∙ sym (run-here bytes s .events-are) in
         record { accepted = rw events accepted; events = events; left = left-as t (r .left) }
 
@@ -78,7 +78,7 @@ module _ {file : List ℕ} (bytes : Bytes file) {workers : ℕ} {m : List ℕ} {
   reuse-accepted : {larger : ℕ} {k : List ℕ} (t : Session file larger k (acceptedChoices cs (eventsOf s))) → workers ≤ larger → AcceptedReused s t
   unfolding opened
   reuse-accepted {larger} t more =
-      let r = rules-accepted-reused memorySource larger (here bytes t .manned .most) (begins workers) more cs in
+      let r = rules-more memorySource (begins workers) .accepted-reused larger more (here bytes t .manned .most) cs in
       let same : eventsOf s ≡ told p m workers cs = run-here bytes s .events-are in
       let events : eventsOf t ≡ withoutRefusals (eventsOf s) = told-as t ∙ rw same (r .events) in
       record { accepted = rw events (events-accepted (eventsOf s)); events = events; left = left-as t (rw same (r .left)) }

@@ -3,7 +3,7 @@
 use mathlib.Core.Path.{_≡_}
 use mathlib.Core.Bool.{Bool, true, false}
 use mathlib.Core.List.{List, [], _∷_}
-use Prim.Native.Nat.{ℕ, _<_}
+use Prim.Native.Nat.{ℕ, _≤_, _<_}
 use Rattle.rules.specs.Lists.{if, keep, Every}
 use Rattle.rules.specs.Sources.{Source}
 use Rattle.rules.specs.RunState.{Machine}
@@ -58,3 +58,15 @@ module _ {X : Type 0} (S : Source X) (m m′ : Machine X) (cs : List Choice) whe
   pub record AnsweredAlike : Type 0 where
     pub told : answers S m′ cs ≡ answers S m cs
     pub left : follow S m′ cs ≡ withWorkers (m′ .workers) (follow S m cs)
+
+-- what holds of every machine, whether a run leaves it or not. The run that is opened with W, its limit made larger, is the run that is
+-- opened with the larger one.
+pub record MoreWorkers {X : Type 0} (S : Source X) (m : Machine X) : Type 0 where
+  -- "a list of choices accepted under a limit W .. is accepted under every larger one up to 32, with the same events"
+  pub reused : (larger : ℕ) → m .workers ≤ larger → larger ≤ 32 → (cs : List Choice) → Every Accepted (answers S m cs) →
+      Reused S m (withWorkers larger m) cs
+  -- of any list, those that are accepted
+  pub accepted-reused : (larger : ℕ) → m .workers ≤ larger → larger ≤ 32 → (cs : List Choice) → AcceptedReused S m (withWorkers larger m) cs
+  -- and a list that names only workers below W, and gets no 14
+  pub answered-alike : (larger : ℕ) → m .workers ≤ larger → larger ≤ 32 → (cs : List Choice) → Every (Known (m .workers)) cs →
+      Every (λ a. a ≡ Refused 14 → ⊥) (answers S m cs) → AnsweredAlike S m (withWorkers larger m) cs

@@ -12,7 +12,7 @@ use Rattle.rules.specs.RunState.{Machine, slotOf}
 use Rattle.rules.specs.Ranges.{workerSound, slotSound, numbersSound, sound}
 use Rattle.rules.specs.Choices.{Choice, Answer, Refused, choose, chooseBy, answers, follow}
 use Rattle.rules.specs.WholeRuns.{Accepted, withWorkers}
-use Rattle.rules.specs.MoreWorkers.{Known, acceptedIn, Reused, AcceptedReused, AnsweredAlike}
+use Rattle.rules.specs.MoreWorkers.{Known, acceptedIn, Reused, AcceptedReused, AnsweredAlike, MoreWorkers}
 use Rattle.rules.proofs.lists.Tests.{by-test}
 use Rattle.rules.proofs.lists.EveryLaws.{every-weaken}
 use Rattle.rules.proofs.lists.Holding.{first-holds, rest-hold}
@@ -68,27 +68,35 @@ module _ {X : Type 0} (S : Source X) (larger : ℕ) (most : larger ≤ 32) where
         (lt-ltb w larger (omega arith) ∙ sym (lt-ltb w (m .workers) known)) unspoiled
 
   -- lists of choices, from any machine, also one that no run leaves
-  pub answered-alike : (m : Machine X) → m .workers ≤ larger → (cs : List Choice) → Every (Known (m .workers)) cs → Every Unspoiled (answers S m cs) →
+  alike : (m : Machine X) → m .workers ≤ larger → (cs : List Choice) → Every (Known (m .workers)) cs → Every Unspoiled (answers S m cs) →
       AnsweredAlike S m (withWorkers larger m) cs
   unfolding answers follow
-  answered-alike m more [] known ok = record { told = refl; left = refl }
-  answered-alike m more (c ∷ cs) known ok =
+  alike m more [] known ok = record { told = refl; left = refl }
+  alike m more (c ∷ cs) known ok =
       let kept = workers-kept S m (c .worker) (c .line) in
       let one = choose-more m more (c .worker) (c .line) (known .0) (ok .0) in
-      let rest = answered-alike (chooseBy S m c .machine) (omega arith) cs (rw kept (known .1)) (ok .1) in
+      let rest = alike (chooseBy S m c .machine) (omega arith) cs (rw kept (known .1)) (ok .1) in
       record { told = rw (one, rest .told); left = rw one (rest .left) }
 
-  pub reused : (m : Machine X) → m .workers ≤ larger → (cs : List Choice) → Every Accepted (answers S m cs) → Reused S m (withWorkers larger m) cs
-  reused m more cs ok =
-      let same = answered-alike m more cs (accepted-known S m cs ok) (every-weaken Accepted Unspoiled (λ a event. event 14) (answers S m cs) ok) in
+  reuse : (m : Machine X) → m .workers ≤ larger → (cs : List Choice) → Every Accepted (answers S m cs) → Reused S m (withWorkers larger m) cs
+  reuse m more cs ok =
+      let same = alike m more cs (accepted-known S m cs ok) (every-weaken Accepted Unspoiled (λ a event. event 14) (answers S m cs) ok) in
       record { accepted = rw (same .told) ok; events = same .told; left = same .left }
 
-  pub accepted-reused : (m : Machine X) → m .workers ≤ larger → (cs : List Choice) → AcceptedReused S m (withWorkers larger m) cs
-  accepted-reused m more cs =
+  reuse-accepted : (m : Machine X) → m .workers ≤ larger → (cs : List Choice) → AcceptedReused S m (withWorkers larger m) cs
+  reuse-accepted m more cs =
       let ok : Every Accepted (answers S m (acceptedIn S m cs)) = rw (only-told S m cs) (events-accepted (answers S m cs)) in
-      let again = reused m more (acceptedIn S m cs) ok in
+      let again = reuse m more (acceptedIn S m cs) ok in
       record {
         accepted = again .accepted;
         events = again .events ∙ only-told S m cs;
         left = again .left ∙ ap (withWorkers larger) (only-left S m cs);
       }
+
+-- so of every machine
+pub more-workers : {X : Type 0} (S : Source X) (m : Machine X) → MoreWorkers S m
+more-workers S m = record {
+  reused = λ larger more most cs ok. reuse S larger most m more cs ok;
+  accepted-reused = λ larger more most cs. reuse-accepted S larger most m more cs;
+  answered-alike = λ larger more most cs known ok. alike S larger most m more cs known ok;
+}
