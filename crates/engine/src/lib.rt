@@ -13,12 +13,14 @@ use vocabulary::Refusal;
 use vocabulary::Slot;
 use vocabulary::Slots;
 use vocabulary::Worker;
+ghost use mathlib.Core.Bool.{false};
 ghost use mathlib.Core.Path.{_≡_};
 ghost use Rattle.rules.specs.Choices.{choose as chosenBy};
 ghost use Rattle.tables.specs.Calls.{memorySource};
 ghost use Rattle.state.specs.Machines.{machineOf, whole, Ready};
 ghost use Rattle.engine.specs.Machines.{chosenOf};
 ghost use Rattle.engine.specs.Turns.{turned, Fits, MovesAs};
+ghost use Rattle.engine.specs.Moves.{isEarly};
 
 // What a choice returns: its answer, and the state after it.
 pub struct Chosen {
@@ -26,8 +28,19 @@ pub struct Chosen {
     pub state: State,
 }
 
-// A choice of a worker below W and a line below L, in a run that has not ended: what the line does, and whether the worker runs one,
-// is known.
+// Whether a line waits with its counter above 0: it cannot move.
+fn is_early(f: Figures, slot: Slot, counters: &[u8; 512], l: u16) -> bool
+    requires { ⌜ Ready f slot l ⌝ }
+    ensures { λ r. ⌜ r ≡ isEarly (now (counters .entry)) l slot ⌝ }
+{
+    if slot.running {
+        return false;
+    }
+    let at = COUNTERS_OF_LINE * l as usize + slot.pipe.0 as usize;
+    counters[at] != 0
+}
+
+// A choice of a worker below W and a line below L that can move: what the line does, and whether the worker runs one, is known.
 fn move_line(
     f: Figures,
     slot: Slot,
@@ -38,6 +51,7 @@ fn move_line(
     line: Line,
 ) -> Turn
     requires { ⌜ Ready f slot (line .0) ⌝ }
+    requires { ⌜ isEarly (now counters) (line .0) slot ≡ false ⌝ }
     ensures fits { λ r. ⌜ Fits (line .0) r ⌝ }
     ensures moves { λ r. ⌜ MovesAs f (now (counters .entry)) slot busy (worker .0) (line .0) r (now (mem .entry)) (now (mem .exit)) ⌝ }
 {
@@ -46,10 +60,6 @@ fn move_line(
             return Turn::Refused(Refusal::WrongWorker);
         }
         return finishing::finish(f, slot, counters, mem, line);
-    }
-    let at = COUNTERS_OF_LINE * line.0 as usize + slot.pipe.0 as usize;
-    if counters[at] != 0 {
-        return Turn::Refused(Refusal::Early);
     }
     if busy {
         return Turn::Refused(Refusal::WorkerBusy);
@@ -80,10 +90,14 @@ fn turn_of(
     if f.workers <= worker.0 {
         return Turn::Refused(Refusal::WrongWorker);
     }
-    if state::is_over(f.stopped, f.lines, slots, counters) {
-        return Turn::Refused(Refusal::Ended);
-    }
     let slot = seen.slot;
+    // A run in which a line can move has not ended, so only where this one cannot are the others looked at.
+    if is_early(f, slot, counters, line.0) {
+        if state::is_over(f.stopped, f.lines, slots, counters) {
+            return Turn::Refused(Refusal::Ended);
+        }
+        return Turn::Refused(Refusal::Early);
+    }
     move_line(f, slot, seen.busy, counters, mem, worker, line)
 }
 

@@ -6,16 +6,18 @@ ghost use mathlib.Core.Path.{_≡_};
 ghost use Rattle.rules.specs.Lists.{every};
 ghost use Rattle.state.specs.Ending.{isStill, overOf};
 
-// Whether no line can move: the numbers of each are within the tables, it waits, and its counter is above 0.
+// Whether no line can move: the numbers of each are within the tables, it waits, and its counter is above 0. The scan goes from
+// each line's row of counters to the next, and multiplies nothing.
 fn all_still(lines: u16, slots: Slots, counters: &[u8; 512]) -> bool
     ensures { λ r. ⌜ r ≡ every lines (isStill (now (counters .entry)) slots) ⌝ }
 {
     let lines = lines as usize;
+    if SLOTS < lines {
+        return false;
+    }
     let mut l: usize = 0;
+    let mut row: usize = 0;
     while l < lines {
-        if SLOTS <= l {
-            return false;
-        }
         let at = slots.at[l];
         let pipe = at.0 as usize;
         if COUNTERS_OF_LINE <= pipe {
@@ -24,10 +26,10 @@ fn all_still(lines: u16, slots: Slots, counters: &[u8; 512]) -> bool
         if slots.running[l] {
             return false;
         }
-        let counter = counters[COUNTERS_OF_LINE * l + pipe];
-        if counter == 0 {
+        if counters[row + pipe] == 0 {
             return false;
         }
+        row += COUNTERS_OF_LINE;
         l += 1;
     }
     true

@@ -1,16 +1,18 @@
 -- A choice, case by case, as the code meets it.
-use mathlib.Core.Path.{_≡_, refl, sym, subst, _∙_}
-use mathlib.Core.Bool.{Bool, true, false}
+use mathlib.Core.Path.{_≡_, refl, sym, ap, subst, _∙_}
+use mathlib.Core.Bool.{Bool, true, false, not}
 use mathlib.Core.List.{List}
 use Prim.Native.Nat.{ℕ, _<_, _≤_}
 use native.Mathlib.Omega.{arith}
-use borrow.Author.Tests.{lt-ltb, le-ltb, eq-eqb, ne-eqb}
+use borrow.Author.Tests.{lt-ltb, le-ltb, eq-eqb, ne-eqb, not-true}
+use lib.Dec.{ltb, eqb}
 use lib.ListN.{getD}
+use Rattle.rules.specs.Lists.{mustNot}
 use Rattle.rules.specs.RunState.{Machine, slotAt, counterAt}
 use Rattle.vocabulary.specs.declared.Slot.{Slot}
 use Rattle.vocabulary.specs.declared.Slots.{Slots}
 use Rattle.vocabulary.specs.declared.refusal.Refusal.{Refusal}
-use Rattle.rules.specs.Choices.{atWork, ended, start, finish, move, choose}
+use Rattle.rules.specs.Choices.{refuse, atWork, ended, start, finish, move, choose}
 use Rattle.rules.specs.Ranges.{sound}
 use Rattle.rules.specs.Choices as rules
 use Rattle.tables.specs.State as tables
@@ -21,10 +23,13 @@ use Rattle.ranges.specs.declared.Survey.{Survey}
 use Rattle.engine.specs.declared.turn.Turn.{Turn}
 use Rattle.state.specs.Machines.{machineOf}
 use Rattle.engine.specs.Machines.{chosenOf}
-use Rattle.state.specs.Ending.{endedOf}
+use Rattle.state.specs.Ending.{isStill, endedOf}
 use Rattle.state.specs.Machines.{whole, Ready}
 use Rattle.ranges.specs.Surveys.{surveyOf}
 use Rattle.engine.specs.Turns.{turned}
+use Rattle.engine.specs.Moves.{isEarly}
+use Rattle.rules.proofs.lists.Tests.{by-test, never}
+use Rattle.rules.proofs.lists.Holding.{first-holds, rest-hold}
 use Rattle.engine.proofs.moves.Parts.{refused}
 use Rattle.ranges.proofs.in_range.SurveyLaws.{tells-sound, tells-slot}
 use Rattle.state.proofs.in_range.SoundLaws as laws
@@ -50,19 +55,28 @@ module _ (f : Figures) (counters : List ℕ) (slots : Slots) (w l : ℕ) (mem : 
       unfolding move machineOf
       move-finish e h = rw (slot-is, runs, eq-eqb (slot .worker .0) w e) h
 
-    module _ (waits : slot .running ≡ false) where
-      pub move-early : (due ≡ 0 → ⊥) → chosenOf (turned s l (Turn.Refused Refusal.Early)) mem ≡ move memorySource machine w l
-      unfolding move machineOf
-      move-early n = refused s Refusal.Early mem refl ∙ rw (slot-is, waits, ne-eqb due 0 n)
+    -- a line that waits with its counter above 0
+    move-early : isEarly counters l slot ≡ true → chosenOf (turned s l (Turn.Refused Refusal.Early)) mem ≡ move memorySource machine w l
+    unfolding move machineOf isEarly
+    move-early h =
+        let waits : slot .running ≡ false = not-true _ (first-holds (not (slot .running)) _ h) in
+        let above : eqb due 0 ≡ false = not-true _ (first-holds _ true (rest-hold (not (slot .running)) _ h)) in
+        refused s Refusal.Early mem refl ∙ rw (slot-is, waits, above)
 
-      module _ (none : due ≡ 0) {busy : Bool} (busy-is : busy ≡ atWork slots w (f .lines)) where
+    -- one that can move
+    module _ (waits : slot .running ≡ false) (able : isEarly counters l slot ≡ false) where
+      none : eqb due 0 ≡ true
+      unfolding isEarly
+      none = by-test (eqb due 0) (λ t. t) (λ t. absurd (never (rw (waits, t) at able)))
+
+      module _ {busy : Bool} (busy-is : busy ≡ atWork slots w (f .lines)) where
         pub move-busy : busy ≡ true → chosenOf (turned s l (Turn.Refused Refusal.WorkerBusy)) mem ≡ move memorySource machine w l
         unfolding move machineOf
-        move-busy h = refused s Refusal.WorkerBusy mem refl ∙ rw (slot-is, waits, eq-eqb due 0 none, sym busy-is ∙ h)
+        move-busy h = refused s Refusal.WorkerBusy mem refl ∙ rw (slot-is, waits, none, sym busy-is ∙ h)
 
         pub move-start : {x : rules.Chosen tables.State} → busy ≡ false → x ≡ start memorySource machine w l → x ≡ move memorySource machine w l
         unfolding move machineOf
-        move-start h x-is = rw (slot-is, waits, eq-eqb due 0 none, sym busy-is ∙ h) x-is
+        move-start h x-is = rw (slot-is, waits, none, sym busy-is ∙ h) x-is
 
   -- the choice, by what a look over the state tells
   module _ {seen : Survey} (seen-is : seen ≡ surveyOf f counters slots mem w l) where
@@ -88,18 +102,35 @@ module _ (f : Figures) (counters : List ℕ) (slots : Slots) (w l : ℕ) (mem : 
         pub ready-seen : Ready f (seen .slot) l
         ready-seen = subst (λ slot. Ready f slot l) slot-here ready-here
 
+        -- a run in which the line can move has not ended
+        goes-on : isEarly counters l (seen .slot) ≡ false → ended machine ≡ false
+        unfolding isStill isEarly
+        goes-on able =
+            let a : ltb l 32 ≡ true = lt-ltb l 32 (omega (arith, known, ready-here .lines)) in
+            let b : ltb (slotAt slots l .pipe .0) 16 ≡ true =
+            lt-ltb (slotAt slots l .pipe .0) 16 (omega (arith, ready-here .pipe, ready-here .pipes)) in
+            laws.goes-on s mem (sym b-is ∙ ok) l known (rw (a, b) (ap (isEarly counters l) slot-here ∙ able))
+
         pub choose-unknown : f .workers ≤ w → chosenOf (turned s l (Turn.Refused Refusal.WrongWorker)) mem ≡ choose memorySource machine w l
         unfolding choose machineOf
         choose-unknown h = refused s Refusal.WrongWorker mem refl ∙ rw (sym b-is ∙ ok, lt-ltb l (f .lines) known, le-ltb w (f .workers) h)
 
-        module _ (manned : w < f .workers) {e : Bool} (e-is : e ≡ endedOf s) where
-          ended-here : ended machine ≡ e
-          ended-here = sym (e-is ∙ laws.ended-is s mem (sym b-is ∙ ok))
-
-          pub choose-over : e ≡ true → chosenOf (turned s l (Turn.Refused Refusal.Ended)) mem ≡ choose memorySource machine w l
+        module _ (manned : w < f .workers) where
+          choose-known : choose memorySource machine w l ≡ mustNot (ended machine) (refuse machine 11) (move memorySource machine w l)
           unfolding choose machineOf
-          choose-over t = refused s Refusal.Ended mem refl ∙ rw (sym b-is ∙ ok, lt-ltb l (f .lines) known, lt-ltb w (f .workers) manned, ended-here ∙ t)
+          choose-known = rw (sym b-is ∙ ok, lt-ltb l (f .lines) known, lt-ltb w (f .workers) manned)
 
-          pub choose-move : {x : rules.Chosen tables.State} → e ≡ false → x ≡ move memorySource machine w l → x ≡ choose memorySource machine w l
-          unfolding choose machineOf
-          choose-move t x-is = rw (sym b-is ∙ ok, lt-ltb l (f .lines) known, lt-ltb w (f .workers) manned, ended-here ∙ t) x-is
+          pub choose-move : {x : rules.Chosen tables.State} → isEarly counters l (seen .slot) ≡ false → x ≡ move memorySource machine w l →
+              x ≡ choose memorySource machine w l
+          choose-move able x-is = sym (choose-known ∙ rw (goes-on able) (sym x-is))
+
+          -- where it cannot, the others are looked at
+          module _ (early : isEarly counters l (seen .slot) ≡ true) {e : Bool} (e-is : e ≡ endedOf s) where
+            ended-here : ended machine ≡ e
+            ended-here = sym (e-is ∙ laws.ended-is s mem (sym b-is ∙ ok))
+
+            pub choose-over : e ≡ true → chosenOf (turned s l (Turn.Refused Refusal.Ended)) mem ≡ choose memorySource machine w l
+            choose-over t = refused s Refusal.Ended mem refl ∙ sym (choose-known ∙ rw (ended-here ∙ t))
+
+            pub choose-early : e ≡ false → chosenOf (turned s l (Turn.Refused Refusal.Early)) mem ≡ choose memorySource machine w l
+            choose-early t = move-early slot-here early ∙ sym (choose-known ∙ rw (ended-here ∙ t))

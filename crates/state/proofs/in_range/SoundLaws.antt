@@ -1,5 +1,5 @@
 -- What a state within its ranges is like.
-use mathlib.Core.Path.{_≡_, refl, ap, _∙_}
+use mathlib.Core.Path.{_≡_, refl, sym, ap, _∙_}
 use mathlib.Core.Bool.{Bool, true, false, not}
 use mathlib.Core.List.{List}
 use Prim.Native.Nat.{ℕ, zero, suc, _+_, _*_, _<_, _≤_}
@@ -19,7 +19,8 @@ use Rattle.state.specs.declared.Figures.{Figures}
 use Rattle.state.specs.Machines.{slotsOf, machineOf}
 use Rattle.state.specs.Ending.{isStill, overOf, endedOf}
 use Rattle.state.specs.Machines.{whole, Ready}
-use Rattle.rules.proofs.lists.Tests.{by-test}
+use Rattle.rules.proofs.lists.Tests.{by-test, if-same}
+use Rattle.rules.proofs.lists.EveryBelow.{every-fails}
 use Rattle.rules.proofs.choices.SoundMachines.{pipe-in}
 use Rattle.rules.proofs.choices.SoundMachines.{pipes-most as most-pipes, lines-most as most-lines}
 
@@ -59,6 +60,11 @@ module _ (s : State) (mem : List ℕ) (ok : sound memorySource (machineOf s mem)
   pub ended-is : endedOf s ≡ ended (machineOf s mem)
   unfolding overOf ended machineOf
   ended-is = ap (λ b. if (s .stopped) b false) (still-lines (s .lines) (omega arith))
+
+  -- a run in which a line can move has not ended
+  pub goes-on : (l : ℕ) → l < s .lines → isStill (s .counters) (slotsOf s) l ≡ false → ended (machineOf s mem) ≡ false
+  unfolding overOf
+  goes-on l h e = sym ended-is ∙ rw (sym (every-fails (isStill (s .counters) (slotsOf s)) (s .lines) l h e)) (if-same (s .stopped) false)
 
 -- so a line of the plan is ready to move
 pub ready : (f : Figures) (counters : List ℕ) (slots : Slots) (mem : List ℕ) → sound memorySource (machineOf (whole f counters slots) mem) ≡ true →
