@@ -1,5 +1,5 @@
 // Runs are spoiled by edits, `LETTER AT VALUE`. The letters are
-//     P L W K     of the state: pipes, lines, workers, tokens with a place
+//     P L W K X   of the state: pipes, lines, workers, tokens with a place, whether it is marked stopped (1)
 //     S C         pipe AT is serial (1) or not (0), counter AT
 //     p r t k w   of line AT: its pipe, whether it runs (1), its token, its place, its worker
 //     N T F E D   of the tables: tokens, count (taken), the ready queue's first and end, how many are deferred
@@ -48,6 +48,7 @@ fn with_number(s: State, letter: u8, n: u16) -> State {
         b'L' => t.lines = n,
         b'W' => t.workers = n,
         b'K' => t.placed = n,
+        b'X' => t.stopped = n == 1,
         b'N' => t.tables.tokens = n,
         b'T' => t.tables.count = n,
         b'F' => t.tables.first = n,

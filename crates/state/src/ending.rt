@@ -15,15 +15,18 @@ fn all_still(lines: u16, slots: Slots, counters: &[u8; 512]) -> bool
     if SLOTS < lines {
         return false;
     }
+    // The two rows by themselves: were `slots` looked into, all five would be copied.
+    let at = slots.at;
+    let running = slots.running;
     let mut l: usize = 0;
     let mut row: usize = 0;
     while l < lines {
-        let at = slots.at[l];
-        let pipe = at.0 as usize;
+        let here = at[l];
+        let pipe = here.0 as usize;
         if COUNTERS_OF_LINE <= pipe {
             return false;
         }
-        if slots.running[l] {
+        if running[l] {
             return false;
         }
         if counters[row + pipe] == 0 {
