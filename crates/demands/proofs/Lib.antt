@@ -10,6 +10,8 @@ pub mod Demands
 pub mod Opens
 -- a refused choice leaves state and memory as they were;
 pub mod Unchanged
+-- and what one does is told by its contract, to the last number;
+pub mod OneOutcome
 -- every session of the code is as the demands say;
 pub mod CodeRuns
 -- its choices do the same under a larger limit;

@@ -4,6 +4,8 @@ pub mod Demands
 pub mod OpenedRun
 -- runs of the code, with what the demands say of them;
 pub mod CodeRuns
+-- two calls of `choose` with the same arguments (02, 2.4);
+pub mod OneOutcome
 -- a session's choices under a larger limit, and two in either order (02, 2.12).
 pub mod MoreWorkers
 pub mod Swapping

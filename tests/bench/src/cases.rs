@@ -3,9 +3,13 @@
 use crate::plain::{self, Choice};
 use crate::{check, plans};
 
+/// One token fewer than lines.
+pub const ONE_ROUND: u16 = 31;
 pub const SMALL: u16 = 256;
 pub const MIDDLE: u16 = 1024;
 pub const LARGE: u16 = 4096;
+/// How many times as many choices are made past the end as before it.
+const PAST_END: usize = 7;
 pub const SIZES: [u16; 3] = [SMALL, MIDDLE, LARGE];
 
 #[derive(Clone, Copy, PartialEq)]
@@ -29,6 +33,8 @@ pub enum Shape {
 pub enum Order {
     Random,
     OneWorker,
+    StopFirst,
+    PastEnd,
 }
 
 /// What is measured, and the order of its choices.
@@ -74,6 +80,8 @@ impl Order {
         match self {
             Order::Random => "random, 32 workers",
             Order::OneWorker => "one worker",
+            Order::StopFirst => "stop first",
+            Order::PastEnd => "stop first, past the end",
         }
     }
 }
@@ -105,13 +113,22 @@ impl Kind {
                 (32, seeds.map(|seed| plans::random_order(&file, 32, seed)).collect())
             }
             Order::OneWorker => (1, vec![plans::one_worker_order(&file)]),
+            Order::StopFirst => (1, vec![plans::stop_first_order(&plan)]),
+            // Then each line in turn, again and again: all of these choices are refused.
+            Order::PastEnd => {
+                let mut choices = plans::stop_first_order(&plan);
+                let refused = (0..plan.lines as u8).map(|line| [0, line]).cycle();
+                choices.extend(refused.take(PAST_END * choices.len()));
+                (1, vec![choices])
+            }
         };
+        // All tokens are ordered, no choice is refused before the end, and every one after it.
+        let whole = 2 * usize::from(self.tokens) * plan.pipes.len() + 1;
         for choices in &lists {
-            // All tokens are ordered, no choice is refused, and the last one ends the run.
-            assert_eq!(choices.len(), 2 * usize::from(self.tokens) * plan.pipes.len() + 1);
             let mut run = plain::Run::open(&file, workers);
-            for &choice in choices {
-                assert!(!matches!(run.choose(choice), plain::Answer::Refused(_)));
+            for (made, &choice) in choices.iter().enumerate() {
+                assert_eq!(run.ended(), made >= whole);
+                assert_eq!(matches!(run.choose(choice), plain::Answer::Refused(_)), made >= whole);
             }
             assert!(run.ended());
         }
@@ -147,6 +164,10 @@ pub fn all() -> Vec<Case> {
         SIZES.into_iter().for_each(|tokens| wide(Deferral::None, tokens));
         wide(Deferral::EveryThird, LARGE);
         wide(Deferral::Long, LARGE);
+    }
+    for order in [Order::StopFirst, Order::PastEnd] {
+        let (deferral, shape, tokens) = (Deferral::None, Shape::Wide, ONE_ROUND);
+        kinds.push(Kind { deferral, shape, tokens, order });
     }
     // With one line there is one order, but for refused choices.
     let mut narrow = |deferral, tokens| {

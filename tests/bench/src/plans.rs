@@ -161,3 +161,14 @@ pub fn one_worker_order(file: &[u8]) -> Vec<Choice> {
         line = (line + 1) % run.lines();
     }
 }
+
+/// For a plan of fewer tokens than lines, in token order and with W = 1: each token through pipe 0, then the
+/// stop, and only then each line, one after the other, through the other pipes. So most choices come after
+/// the stop.
+pub fn stop_first_order(plan: &Plan) -> Vec<Choice> {
+    assert!(plan.tokens < plan.lines && plan.records.is_empty());
+    let lines = 0..plan.tokens as u8;
+    let through = |pipes: usize| lines.clone().flat_map(move |line| vec![[0, line]; 2 * pipes]);
+    let stop = [0, plan.tokens as u8];
+    through(1).chain([stop]).chain(through(plan.pipes.len() - 1)).collect()
+}
