@@ -1,11 +1,11 @@
 -- What the parts of a move answer, as the code has them.
 use mathlib.Core.Path.{_≡_}
-use mathlib.Core.Bool.{Bool, true, false, not}
-use mathlib.Core.List.{List, [], _∷_}
+use mathlib.Core.Bool.{Bool, true, false}
+use mathlib.Core.List.{List}
 use Prim.Native.Nat.{ℕ, _+_, _-_}
 use lib.Dec.{eqb, ltb}
 use lib.ListN.{getD, set}
-use Rattle.rules.specs.Lists.{if, mustNot, all}
+use Rattle.rules.specs.Lists.{if, mustNot}
 use Rattle.vocabulary.specs.declared.Line.{Line}
 use Rattle.vocabulary.specs.declared.Worker.{Worker}
 use Rattle.vocabulary.specs.declared.Slot.{Slot}
@@ -23,10 +23,6 @@ use Rattle.engine.specs.Turns.{turned}
 use Rattle.engine.specs.declared.turn.Cell.{Cell}
 use Rattle.engine.specs.declared.turn.Turn.{Turn}
 use Rattle.engine.specs.declared.finishing.Falls.{Falls}
-
--- 12, and 11 once the run has ended: "line waits with counter above 0"
-unfoldable pub isEarly : List ℕ → ℕ → Slot → Bool
-isEarly counters l slot = all (not (slot .running) ∷ not (eqb (getD counters (counterAt l (slot .pipe .0)) 0) 0) ∷ [])
 
 -- whether a token was taken
 abbrev pub isTook : {X : Type 0} → Taken X → Bool

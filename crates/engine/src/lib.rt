@@ -18,9 +18,9 @@ ghost use mathlib.Core.Path.{_≡_};
 ghost use Rattle.rules.specs.Choices.{choose as chosenBy};
 ghost use Rattle.tables.specs.Calls.{memorySource};
 ghost use Rattle.state.specs.Machines.{machineOf, whole, Ready};
+ghost use Rattle.state.specs.Ending.{isEarly};
 ghost use Rattle.engine.specs.Machines.{chosenOf};
 ghost use Rattle.engine.specs.Turns.{turned, Fits, MovesAs};
-ghost use Rattle.engine.specs.Moves.{isEarly};
 
 // What a choice returns: its answer, and the state after it.
 pub struct Chosen {
@@ -31,7 +31,7 @@ pub struct Chosen {
 // Whether a line waits with its counter above 0: it cannot move.
 fn is_early(f: Figures, slot: Slot, counters: &[u8; 512], l: u16) -> bool
     requires { ⌜ Ready f slot l ⌝ }
-    ensures { λ r. ⌜ r ≡ isEarly (now (counters .entry)) l slot ⌝ }
+    ensures { λ r. ⌜ r ≡ isEarly (now (counters .entry)) slot l ⌝ }
 {
     if slot.running {
         return false;
@@ -51,7 +51,7 @@ fn move_line(
     line: Line,
 ) -> Turn
     requires { ⌜ Ready f slot (line .0) ⌝ }
-    requires { ⌜ isEarly (now counters) (line .0) slot ≡ false ⌝ }
+    requires { ⌜ isEarly (now counters) slot (line .0) ≡ false ⌝ }
     ensures fits { λ r. ⌜ Fits (line .0) r ⌝ }
     ensures moves { λ r. ⌜ MovesAs f (now (counters .entry)) slot busy (worker .0) (line .0) r (now (mem .entry)) (now (mem .exit)) ⌝ }
 {

@@ -11,13 +11,17 @@ use Rattle.rules.specs.RunState.{slotAt, counterAt}
 use Rattle.state.specs.declared.State.{State}
 use Rattle.state.specs.Machines.{slotsOf}
 
--- a line that cannot move: its numbers are within the tables, it waits, and its counter is above 0
+-- 12's condition: "line waits with counter above 0"
+unfoldable pub isEarly : List ℕ → Slot → ℕ → Bool
+isEarly counters slot l = all (not (slot .running) ∷ not (eqb (getD counters (counterAt l (slot .pipe .0)) 0) 0) ∷ [])
+
+-- a line that cannot move: its numbers are within the tables, and it waits with its counter above 0
 unfoldable pub isStill : List ℕ → Slots → ℕ → Bool
 isStill counters slots l =
     let slot : Slot = slotAt slots l in
-    all (
-    ltb l 32 ∷ ltb (slot .pipe .0) 16 ∷ not (slot .running) ∷
-    not (eqb (getD counters (counterAt l (slot .pipe .0)) 0) 0) ∷ [])
+    must (ltb l 32) false
+    (must (ltb (slot .pipe .0) 16) false
+    (isEarly counters slot l))
 
 -- "The run has ended when it is marked stopped, no line runs and no waiting line has counter 0." For any state; of one in
 -- range it is the rules' `ended`.

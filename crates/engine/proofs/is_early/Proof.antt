@@ -1,7 +1,7 @@
 -- `engine::is_early` meets its contract.
 use borrow.Author.Needs.{needs}
 use Rattle.rules.proofs.lists.Tests.{tests, if-eta}
-use Rattle.engine.specs.Moves.{isEarly}
+use Rattle.state.specs.Ending.{isEarly}
 use Rattle.engine.proofs.is_early.Statement.{statement}
 use Rattle.engine.proofs.is_early.Tie as tie
 

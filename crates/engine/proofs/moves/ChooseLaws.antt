@@ -5,7 +5,7 @@ use mathlib.Core.List.{List}
 use Prim.Native.Nat.{ℕ, _<_, _≤_}
 use native.Mathlib.Omega.{arith}
 use borrow.Author.Tests.{lt-ltb, le-ltb, eq-eqb, ne-eqb, not-true}
-use lib.Dec.{ltb, eqb}
+use lib.Dec.{eqb}
 use lib.ListN.{getD}
 use Rattle.rules.specs.Lists.{mustNot}
 use Rattle.rules.specs.RunState.{Machine, slotAt, counterAt}
@@ -23,11 +23,10 @@ use Rattle.ranges.specs.declared.Survey.{Survey}
 use Rattle.engine.specs.declared.turn.Turn.{Turn}
 use Rattle.state.specs.Machines.{machineOf}
 use Rattle.engine.specs.Machines.{chosenOf}
-use Rattle.state.specs.Ending.{isStill, endedOf}
+use Rattle.state.specs.Ending.{isEarly, endedOf}
 use Rattle.state.specs.Machines.{whole, Ready}
 use Rattle.ranges.specs.Surveys.{surveyOf}
 use Rattle.engine.specs.Turns.{turned}
-use Rattle.engine.specs.Moves.{isEarly}
 use Rattle.rules.proofs.lists.Tests.{by-test, never}
 use Rattle.rules.proofs.lists.Holding.{first-holds, rest-hold}
 use Rattle.engine.proofs.moves.Parts.{refused}
@@ -56,7 +55,7 @@ module _ (f : Figures) (counters : List ℕ) (slots : Slots) (w l : ℕ) (mem : 
       move-finish e h = rw (slot-is, runs, eq-eqb (slot .worker .0) w e) h
 
     -- a line that waits with its counter above 0
-    move-early : isEarly counters l slot ≡ true → chosenOf (turned s l (Turn.Refused Refusal.Early)) mem ≡ move memorySource machine w l
+    move-early : isEarly counters slot l ≡ true → chosenOf (turned s l (Turn.Refused Refusal.Early)) mem ≡ move memorySource machine w l
     unfolding move machineOf isEarly
     move-early h =
         let waits : slot .running ≡ false = not-true _ (first-holds (not (slot .running)) _ h) in
@@ -64,7 +63,7 @@ module _ (f : Figures) (counters : List ℕ) (slots : Slots) (w l : ℕ) (mem : 
         refused s Refusal.Early mem refl ∙ rw (slot-is, waits, above)
 
     -- one that can move
-    module _ (waits : slot .running ≡ false) (able : isEarly counters l slot ≡ false) where
+    module _ (waits : slot .running ≡ false) (able : isEarly counters slot l ≡ false) where
       none : eqb due 0 ≡ true
       unfolding isEarly
       none = by-test (eqb due 0) (λ t. t) (λ t. absurd (never (rw (waits, t) at able)))
@@ -103,13 +102,8 @@ module _ (f : Figures) (counters : List ℕ) (slots : Slots) (w l : ℕ) (mem : 
         ready-seen = subst (λ slot. Ready f slot l) slot-here ready-here
 
         -- a run in which the line can move has not ended
-        goes-on : isEarly counters l (seen .slot) ≡ false → ended machine ≡ false
-        unfolding isStill isEarly
-        goes-on able =
-            let a : ltb l 32 ≡ true = lt-ltb l 32 (omega (arith, known, ready-here .lines)) in
-            let b : ltb (slotAt slots l .pipe .0) 16 ≡ true =
-            lt-ltb (slotAt slots l .pipe .0) 16 (omega (arith, ready-here .pipe, ready-here .pipes)) in
-            laws.goes-on s mem (sym b-is ∙ ok) l known (rw (a, b) (ap (isEarly counters l) slot-here ∙ able))
+        goes-on : isEarly counters (seen .slot) l ≡ false → ended machine ≡ false
+        goes-on able = laws.goes-on s mem (sym b-is ∙ ok) l known (ap (λ slot. isEarly counters slot l) slot-here ∙ able)
 
         pub choose-unknown : f .workers ≤ w → chosenOf (turned s l (Turn.Refused Refusal.WrongWorker)) mem ≡ choose memorySource machine w l
         unfolding choose machineOf
@@ -120,12 +114,12 @@ module _ (f : Figures) (counters : List ℕ) (slots : Slots) (w l : ℕ) (mem : 
           unfolding choose machineOf
           choose-known = rw (sym b-is ∙ ok, lt-ltb l (f .lines) known, lt-ltb w (f .workers) manned)
 
-          pub choose-move : {x : rules.Chosen tables.State} → isEarly counters l (seen .slot) ≡ false → x ≡ move memorySource machine w l →
+          pub choose-move : {x : rules.Chosen tables.State} → isEarly counters (seen .slot) l ≡ false → x ≡ move memorySource machine w l →
               x ≡ choose memorySource machine w l
           choose-move able x-is = sym (choose-known ∙ rw (goes-on able) (sym x-is))
 
           -- where it cannot, the others are looked at
-          module _ (early : isEarly counters l (seen .slot) ≡ true) {e : Bool} (e-is : e ≡ endedOf s) where
+          module _ (early : isEarly counters (seen .slot) l ≡ true) {e : Bool} (e-is : e ≡ endedOf s) where
             ended-here : ended machine ≡ e
             ended-here = sym (e-is ∙ laws.ended-is s mem (sym b-is ∙ ok))
 

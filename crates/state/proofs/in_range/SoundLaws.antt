@@ -5,7 +5,7 @@ use mathlib.Core.List.{List}
 use Prim.Native.Nat.{ℕ, zero, suc, _+_, _*_, _<_, _≤_}
 use native.Mathlib.Omega.{arith}
 use borrow.Author.Tests.{lt-ltb}
-use lib.Dec.{ltb, eqb}
+use lib.Dec.{eqb}
 use lib.ListN.{getD}
 use Rattle.rules.specs.Lists.{if, every}
 use Rattle.vocabulary.specs.declared.Slot.{Slot}
@@ -17,7 +17,7 @@ use Rattle.tables.specs.Calls.{memorySource}
 use Rattle.state.specs.declared.State.{State}
 use Rattle.state.specs.declared.Figures.{Figures}
 use Rattle.state.specs.Machines.{slotsOf, machineOf}
-use Rattle.state.specs.Ending.{isStill, overOf, endedOf}
+use Rattle.state.specs.Ending.{isEarly, isStill, overOf, endedOf}
 use Rattle.state.specs.Machines.{whole, Ready}
 use Rattle.rules.proofs.lists.Tests.{by-test, if-same}
 use Rattle.rules.proofs.lists.EveryBelow.{every-fails}
@@ -42,19 +42,28 @@ module _ (s : State) (mem : List ℕ) (ok : sound memorySource (machineOf s mem)
   unfolding machineOf
   pipe-less l h = pipe-in memorySource (machineOf s mem) ok l h
 
+  -- so a line of the plan cannot move exactly if it waits with its counter above 0
+  still-early : (l : ℕ) → l < s .lines → isStill (s .counters) (slotsOf s) l ≡ isEarly (s .counters) (slotIn s l) l
+  unfolding isStill
+  still-early l h =
+      let pipe : ℕ = slotIn s l .pipe .0 in
+      rw (
+        lt-ltb l 32 (omega (arith, lines-most)),
+        lt-ltb pipe 16 (omega (arith, pipe-less l (omega (arith, lines-most)), pipes-most)),
+      )
+
   -- no line below n can move
   still-lines : (n : ℕ) → n ≤ s .lines → every n (isStill (s .counters) (slotsOf s)) ≡ not (movable (machineOf s mem) n)
-  unfolding every movable isStill machineOf
+  unfolding every movable isEarly machineOf
   still-lines zero h = refl
   still-lines (suc n) h =
       let slot : Slot = slotIn s n in
-      let a : ltb n 32 ≡ true = lt-ltb n 32 (omega (arith, lines-most)) in
-      let b : ltb (slot .pipe .0) 16 ≡ true = lt-ltb (slot .pipe .0) 16 (omega (arith, pipe-less n (omega (arith, lines-most)), pipes-most)) in
+      let early = still-early n (omega arith) in
       by-test (slot .running)
-      (λ e. rw (a, b, e))
+      (λ e. rw (early, e))
       (λ e. by-test (eqb (getD (s .counters) (16 * n + slot .pipe .0) 0) 0)
-      (λ f. rw (a, b, e, f))
-      (λ f. rw (a, b, e, f) (still-lines n (omega arith))))
+      (λ f. rw (early, e, f))
+      (λ f. rw (early, e, f) (still-lines n (omega arith))))
 
   -- and the code's test of the end is that of the rules
   pub ended-is : endedOf s ≡ ended (machineOf s mem)
@@ -62,9 +71,11 @@ module _ (s : State) (mem : List ℕ) (ok : sound memorySource (machineOf s mem)
   ended-is = ap (λ b. if (s .stopped) b false) (still-lines (s .lines) (omega arith))
 
   -- a run in which a line can move has not ended
-  pub goes-on : (l : ℕ) → l < s .lines → isStill (s .counters) (slotsOf s) l ≡ false → ended (machineOf s mem) ≡ false
+  pub goes-on : (l : ℕ) → l < s .lines → isEarly (s .counters) (slotIn s l) l ≡ false → ended (machineOf s mem) ≡ false
   unfolding overOf
-  goes-on l h e = sym ended-is ∙ rw (sym (every-fails (isStill (s .counters) (slotsOf s)) (s .lines) l h e)) (if-same (s .stopped) false)
+  goes-on l h able =
+      let some : false ≡ every (s .lines) (isStill (s .counters) (slotsOf s)) = every-fails _ _ l h (still-early l h ∙ able) in
+      sym ended-is ∙ rw (sym some) (if-same (s .stopped) false)
 
 -- so a line of the plan is ready to move
 pub ready : (f : Figures) (counters : List ℕ) (slots : Slots) (mem : List ℕ) → sound memorySource (machineOf (whole f counters slots) mem) ≡ true →

@@ -8,7 +8,7 @@ use borrow.Author.Needs.{needs}
 use Rattle.vocabulary.specs.declared.Pipe.{Pipe}
 use Rattle.rules.specs.Lists.{every}
 use Rattle.rules.specs.RunState.{slotAt}
-use Rattle.state.specs.Ending.{isStill}
+use Rattle.state.specs.Ending.{isEarly, isStill}
 use Rattle.rules.proofs.lists.Tests.{tests}
 use Rattle.rules.proofs.lists.EveryBelow.{every-none, every-more, every-done, every-fails}
 use Rattle.state.proofs.ending.all_still.Statement.{statement}
@@ -25,7 +25,7 @@ abbrev μ-loop : tie.MeasureT-loop
 μ-loop lines counters lines' at running l₀ row₀ l row = lines' - l
 
 returns : tie.Need-returns Inv-loop μ-loop
-unfolding isStill slotAt
+unfolding isStill isEarly slotAt
 returns c = every-fails _ _ 32 (c .if1 .taken) (search tests depth 12)
 
 loop-holds : tie.Need-loop-holds Inv-loop μ-loop
@@ -41,7 +41,7 @@ cast-pipe : tie.Need-cast-pipe Inv-loop μ-loop
 cast-pipe c = search needs
 
 returns-2 : tie.Need-returns-2 Inv-loop μ-loop
-unfolding isStill slotAt
+unfolding isStill isEarly slotAt
 returns-2 c =
     let at-loop = c .before .before .before .before in
     let within : at-loop .loop .l < 32 = omega arith in
@@ -51,7 +51,7 @@ array-read-if3 : tie.Need-array-read-if3 Inv-loop μ-loop
 array-read-if3 c = search needs
 
 returns-3 : tie.Need-returns-3 Inv-loop μ-loop
-unfolding isStill slotAt
+unfolding isStill isEarly slotAt
 returns-3 c =
     let at-loop = c .before .before .before .before .before in
     let within : at-loop .loop .l < 32 = omega arith in
@@ -64,7 +64,7 @@ element-copy-out-if4 : tie.Need-element-copy-out-if4 Inv-loop μ-loop
 element-copy-out-if4 c = search needs
 
 returns-4 : tie.Need-returns-4 Inv-loop μ-loop
-unfolding isStill slotAt
+unfolding isStill isEarly slotAt
 returns-4 c =
     let at-loop = c .before .before .before .before .before .before .before in
     let within : at-loop .loop .l < 32 = omega arith in
@@ -81,7 +81,7 @@ loop-less : tie.Need-loop-less Inv-loop μ-loop
 loop-less c = omega arith
 
 loop-again : tie.Need-loop-again Inv-loop μ-loop
-unfolding isStill slotAt
+unfolding isStill isEarly slotAt
 loop-again c =
     let at-loop = c .before .before .before .before .before .before .before in
     let within : at-loop .loop .l < 32 = omega arith in
@@ -89,7 +89,7 @@ loop-again c =
     (omega arith, omega arith, every-more _ _ (at-loop .loop .inv .2) (sym (search (tests, within, above) depth 12)))
 
 returns-5 : tie.Need-returns-5 Inv-loop μ-loop
-unfolding isStill slotAt
+unfolding isStill isEarly slotAt
 returns-5 c = every-done _ _ (c .before .loop .l) (omega arith) (omega arith) (c .before .loop .inv .2)
 
 pub all-still-spec : {M : Type 1} → statement M
