@@ -14,6 +14,7 @@ from makers import (
     raw_file,
     raw_record,
     round_robin_list,
+    stop_first_list,
 )
 from plan_file import Plan, encode, two_bytes
 from program import output
@@ -116,6 +117,7 @@ def run_entries():
         + wrong_turn_entries()
         + refusal_entries()
         + narrow_entries()
+        + stop_first_entries()
         + limit_entries()
         + random_entries()
         + long_entries()
@@ -289,6 +291,19 @@ def narrow_entries():
                 choices = allowed_list(chance, plan, workers, 60, strays=4)
                 entries.append(given_run(plan, workers, choices))
     return entries
+
+
+def stop_first_entries():
+    """Runs that are marked stopped for most of their choices: 12 up to the end, 11 past it, on every line."""
+    return [
+        given_run(plan, workers, stop_first_list(plan, workers))
+        for plan, workers in (
+            (Plan([True, False, True], 32, 31), 32),
+            (Plan([True, False, True], 32, 31), 1),
+            (Plan(big_pipes(), 5, 4), 2),
+            (Plan([True, True], 2, 1), 1),
+        )
+    ]
 
 
 def limit_entries():
