@@ -241,30 +241,6 @@ def round_robin_list(plan, workers, many):
     return by_practice(plan, workers, [i % plan.lines for i in range(many)])
 
 
-def stop_first_list(plan, workers):
-    """Every token through pipe 0, the stop, and then each line in turn until the run has ended, and once more.
-
-    For a plan of fewer tokens than lines, without records.
-    """
-    run = Run(plan, workers)
-    choices = []
-
-    def name(line):
-        choices.append((run.practice_worker(line), line))
-        run.choose(*choices[-1])
-
-    for token in range(plan.tokens):
-        name(token)
-        name(token)
-    name(plan.tokens)
-    ended = False
-    while not ended:
-        ended = run.ended
-        for line in range(plan.lines):
-            name(line)
-    return choices
-
-
 def random_lines(chance, plan, many, past=0):
     """Any lines, and now and then one up to `past` beyond them."""
     lines = []

@@ -14,7 +14,6 @@ from makers import (
     raw_file,
     raw_record,
     round_robin_list,
-    stop_first_list,
 )
 from plan_file import Plan, encode, two_bytes
 from program import output
@@ -294,16 +293,25 @@ def narrow_entries():
 
 
 def stop_first_entries():
-    """Runs that are marked stopped for most of their choices: 12 up to the end, 11 past it, on every line."""
-    return [
-        given_run(plan, workers, stop_first_list(plan, workers))
-        for plan, workers in (
-            (Plan([True, False, True], 32, 31), 32),
-            (Plan([True, False, True], 32, 31), 1),
-            (Plan(big_pipes(), 5, 4), 2),
-            (Plan([True, True], 2, 1), 1),
-        )
-    ]
+    """Runs that are marked stopped for most of their choices.
+
+    Every token goes through pipe 0, then comes the stop, and then each line in turn:
+    many get 12 up to the end, and all get 11 past it.
+    """
+    entries = []
+    for plan, workers in (
+        (Plan([True, False, True], 32, 31), 32),
+        (Plan([True, False, True], 32, 31), 1),
+        (Plan(big_pipes(), 5, 4), 2),
+        (Plan([True, True], 2, 1), 1),
+    ):
+        first = [line for line in range(plan.tokens) for _ in range(2)] + [plan.tokens]
+        # Before the end each round has a choice that is accepted.
+        rounds = 2 * plan.tokens * len(plan.pipes)
+        choices = by_practice(plan, workers, first + list(range(plan.lines)) * rounds)
+        choices = cut_after_end(plan, workers, choices, more=plan.lines)
+        entries.append(given_run(plan, workers, choices))
+    return entries
 
 
 def limit_entries():
