@@ -9,6 +9,8 @@ pub mod Cases
 pub mod Accepting
 -- what a choice does there: refused, it changes nothing;
 pub mod Outcomes
+-- an offer, and the taking of what was offered;
+pub mod Offered
 -- two choices in either order;
 pub mod Swapping
 -- each kind of move keeps the invariant;

@@ -8,6 +8,8 @@ pub mod RunState
 pub mod Ranges
 pub mod Choices
 pub mod Answers
+-- an offer, and the taking of what was offered (2.3);
+pub mod Offers
 -- the worker that goes with a line that is listed alone (2.14);
 pub mod Workers
 -- "The plain sheet and whole runs";

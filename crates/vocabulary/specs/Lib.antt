@@ -2,5 +2,7 @@
 pub mod Branches
 -- the numbers of the refusals ("When the engine says no");
 pub mod Refusals
--- and the kinds of pipes ("The plan file").
+-- the kinds of pipes ("The plan file");
 pub mod PipeKinds
+-- and events as values and as records of numbers (02, 2.3 and 2.6).
+pub mod Events

@@ -1,11 +1,14 @@
 // The vocabulary of document 01: its numbers, each of its own kind, and what a choice answers.
 mod answer;
+mod event;
 mod pipe_kind;
 mod refusal;
 
 pub use answer::Answer;
 pub use answer::Step;
 pub use answer::Stop;
+pub use event::Event;
+pub use event::EventRecord;
 pub use pipe_kind::PipeByte;
 pub use pipe_kind::PipeKind;
 pub use refusal::Refusal;

@@ -2,7 +2,7 @@
 ghost use mathlib.Core.Path.{_≡_};
 ghost use Rattle.vocabulary.specs.Refusals.{numberOf};
 
-// A case for each number of document 01.
+// A case for each number of document 01, and of document 02.
 pub enum Refusal {
     // 1: the file is below 12 or above 32,796 bytes
     FileSize,
@@ -32,6 +32,8 @@ pub enum Refusal {
     WorkerBusy,
     // 14: the state or the memory is spoiled
     Spoiled,
+    // 19: the line would not give the event that is handed
+    OtherEvent,
     // 26: the worker is W or more, or is not the one that runs the line
     WrongWorker,
 }
@@ -56,6 +58,7 @@ impl Refusal {
             Refusal::Early => 12,
             Refusal::WorkerBusy => 13,
             Refusal::Spoiled => 14,
+            Refusal::OtherEvent => 19,
             Refusal::WrongWorker => 26,
         }
     }
