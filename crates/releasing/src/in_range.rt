@@ -24,7 +24,7 @@ ghost use Rattle.tables.specs.declared.Tables.{Tables};
 ghost use Rattle.tables.specs.Layout.{deferredAt, watchesAt, readyAt, lent, mostTokens, readyMark, factsOf};
 ghost use Rattle.tables.specs.Facts.{leftHold};
 ghost use Rattle.tables.specs.State.{InRange, marks};
-ghost use Rattle.tables.specs.Releasing.{isHeld, siftedFrom, tallyOf, Unwatched, renewedFrom, closedBy, movedBy, releaseOf, releasedOf, releasedMemory};
+ghost use Rattle.tables.specs.Releasing.{isHeld, siftedFrom, tallyOf, Unwatched, renewedFrom, closedBy, movedBy, releaseOf, releasedOf, releasedMemory, passes};
 
 // Of the tokens that watch this one: how many no other number holds, and how many another does. The first of them is in the cell `watcher`.
 fn tally(mem: &[u16], tokens: u16, past: u16, watcher: usize, held: usize) -> Tally
@@ -209,6 +209,26 @@ fn release_watched(mem: &mut [u16], t: Tables, past: u16, watcher: usize) -> Rel
         return Released::Passed(t);
     }
     Released::Passed(move_woken(mem, t, past, watcher, woken))
+}
+
+// Whether a token's finish would pass: no record of a token that watches it is bad, and the queue has room for those that wake.
+pub(crate) fn would_release(mem: &[u16], t: Tables, past: u16) -> bool
+    requires { ⌜ InRange t ⌝ }
+    requires { ⌜ lent ≤ length (now mem) ⌝ }
+    ensures { λ r. ⌜ r ≡ passes (releaseOf t past (now (mem .entry))) ⌝ }
+{
+    if t.tokens <= past {
+        return false;
+    }
+    let held = t.held as usize;
+    let found = tally(mem, t.tokens, past, 0, held);
+    let Tally::Known(woken, _) = found else {
+        return false;
+    };
+    if TOKENS - t.end < woken {
+        return false;
+    }
+    true
 }
 
 // A token finishes pipe 0: its waiters lose it, and those with none left become ready.

@@ -124,6 +124,11 @@ releaseOf t d m =
     (must (leb (t .end + length (wokenIn t d m)) mostTokens) Broken
     (Passed (movedTables t d m, movedMemory t d m))))
 
+-- whether it passes: what an offer has to know of it
+abbrev pub passes : Outcome State → Bool
+passes Broken = false
+passes (Passed x) = true
+
 -- what the code returns of it
 unfoldable pub releasedOf : Outcome State → Released
 releasedOf Broken = Released.Broken

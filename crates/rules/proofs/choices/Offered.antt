@@ -15,9 +15,9 @@ use Rattle.rules.specs.RunState.{Machine, slotOf}
 use Rattle.rules.specs.Choices.{Answer, Started, Finished, Stopped, Refused, Chosen, refuse, choose, chooseBy}
 use Rattle.rules.specs.WholeRuns.{Accepted}
 use Rattle.rules.specs.Offers.{isRefused, recordOf, eventOf, named, onlyIf, takeRecord, takeOffered}
-use Rattle.rules.proofs.lists.Tests.{by-test, never}
+use Rattle.rules.proofs.lists.Tests.{by-test, never, holds, fails, see}
 use Rattle.rules.proofs.choices.Accepting.{accepted-own}
-use Rattle.rules.proofs.choices.Outcomes.{Effect, enterEffect, effect, by-effect, accepted-choice}
+use Rattle.rules.proofs.choices.Outcomes.{Effect, enterEffect, effect, by-effect, refused-unchanged, accepted-choice}
 
 -- a record agrees with itself in every field, and two that agree are one
 pub same-itself : (r : EventRecord) → sameRecord r r ≡ true
@@ -59,3 +59,124 @@ event-accepted (Event.Stopped s) = refl
 -- an answer is a refusal or is none
 pub is-accepted : (a : Answer) → isRefused a ≡ false → Accepted a
 is-accepted a e n a-is = never (sym (ap isRefused a-is) ∙ e)
+
+-- an accepted choice's event names the worker and the line that were chosen
+module _ {X : Type 0} (S : Source X) (m : Machine X) (w l : ℕ) where
+  abbrev Names : Answer → Type 0
+  Names a = named (recordOf a) ≡ record { worker = w; line = l }
+
+  enter-names : (s : Slot) (o : Taken X) → Accepted (enterEffect m l s w o .answer) → Names (enterEffect m l s w o .answer)
+  unfolding enterEffect
+  enter-names s Spoiled ok = absurd (ok 14 refl)
+  enter-names s (Nothing x) ok = refl
+  enter-names s (Took t x) ok = refl
+
+  effect-names : (slotOf m l .running ≡ true → slotOf m l .worker .0 ≡ w) → Accepted (effect S m w l (slotOf m l) .answer) →
+      Names (effect S m w l (slotOf m l) .answer)
+  effect-names own =
+      by-effect S m w l (slotOf m l) (λ e. Accepted (e .answer) → Names (e .answer))
+      (λ r ok. ap (λ v. record { worker = v; line = l }) (own r))
+      (λ r ok. ap (λ v. record { worker = v; line = l }) (own r))
+      (λ r. enter-names (slotOf m l) (S .take (m .source)))
+      (λ r ok. refl)
+
+  pub names-choice : Accepted (choose S m w l .answer) → Names (choose S m w l .answer)
+  names-choice ok =
+      let answer-is : choose S m w l .answer ≡ effect S m w l (slotOf m l) .answer = ap (λ c. c .answer) (accepted-choice S m w l ok .1) in
+      subst Names (sym answer-is) (effect-names (accepted-own S m w l ok) (subst Accepted answer-is ok))
+
+-- what is made only by its event: its own refusal, another event, the event
+module _ {X : Type 0} (m : Machine X) (r : EventRecord) (n : ℕ) (c : Chosen X) where
+  pub only-refused : isRefused (c .answer) ≡ true → onlyIf m r n c ≡ c
+  unfolding onlyIf
+  only-refused e = rw e
+
+  module _ (ok : isRefused (c .answer) ≡ false) where
+    pub only-other : sameRecord (recordOf (c .answer)) r ≡ false → onlyIf m r n c ≡ refuse m n
+    unfolding onlyIf
+    only-other e = rw (ok, e)
+
+    pub only-same : sameRecord (recordOf (c .answer)) r ≡ true → onlyIf m r n c ≡ c
+    unfolding onlyIf
+    only-same e = rw (ok, e)
+
+module _ {X : Type 0} (S : Source X) (m : Machine X) where
+  -- an event that a choice gives is taken as the choice is made
+  pub taken-as-chosen : (w l : ℕ) (e : Event) → choose S m w l .answer ≡ eventOf e → takeOffered S m e ≡ choose S m w l
+  taken-as-chosen w l e told =
+      let own : recordOf (choose S m w l .answer) ≡ eventRecord e = ap recordOf told ∙ record-is e in
+      let ok : isRefused (choose S m w l .answer) ≡ false = ap isRefused told ∙ event-accepted e in
+      let choice-is : named (eventRecord e) ≡ record { worker = w; line = l } = ap named (sym own) ∙ names-choice S m w l (is-accepted _ ok) in
+      ap (λ v. onlyIf m (eventRecord e) 19 (chooseBy S m v)) choice-is ∙
+      only-same m (eventRecord e) 19 (choose S m w l) ok (ap (λ r. sameRecord r (eventRecord e)) own ∙ same-itself (eventRecord e))
+
+-- the answer that a record is of
+abbrev answerAt : EventRecord → Answer
+answerAt r =
+    if (eqb (r .kind) 83) (Started (r .line) (r .pipe) (r .token) (r .place) (r .worker))
+    (if (eqb (r .kind) 70) (Finished (r .line) (r .pipe) (r .token) (r .place) (r .worker))
+    (Stopped (r .line) (r .worker)))
+
+record-back : (a : Answer) → isRefused a ≡ false → answerAt (recordOf a) ≡ a
+record-back (Started l p t k w) ok = refl
+record-back (Finished l p t k w) ok = refl
+record-back (Stopped l w) ok = refl
+record-back (Refused n) ok = absurd (never ok)
+
+-- an answer that agrees with an event in every field is that event
+pub same-event : (a : Answer) (e : Event) → isRefused a ≡ false → sameRecord (recordOf a) (eventRecord e) ≡ true → a ≡ eventOf e
+same-event a e ok same =
+    sym (record-back a ok) ∙ ap answerAt (same-fields (recordOf a) (eventRecord e) same ∙ sym (record-is e)) ∙ record-back (eventOf e) (event-accepted e)
+
+-- the choice that an event names, and its taking, in any machine
+module _ {X : Type 0} (S : Source X) (m : Machine X) (e : Event) where
+  abbrev chosen : Chosen X
+  chosen = chooseBy S m (named (eventRecord e))
+
+  -- the choice's own refusal comes first
+  pub taken-own : (n : ℕ) → chosen .answer ≡ Refused n → takeOffered S m e ≡ refuse m n
+  taken-own n told =
+      only-refused m (eventRecord e) 19 chosen (ap isRefused told) ∙
+      (λ i. record { answer = told i; machine = refused-unchanged S m (eventRecord e .worker) (eventRecord e .line) n told i })
+
+  -- then 19, if its event is another
+  pub taken-other : isRefused (chosen .answer) ≡ false → (chosen .answer ≡ eventOf e → ⊥) → takeOffered S m e ≡ refuse m 19
+  taken-other ok other =
+      only-other m (eventRecord e) 19 chosen ok (by-test (sameRecord (recordOf (chosen .answer)) (eventRecord e))
+      (λ same. absurd (other (same-event (chosen .answer) e ok same))) (λ differs. differs))
+
+  -- so a taking that is accepted gives just the event, and is the choice
+  module _ (accepts : isRefused (takeOffered S m e .answer) ≡ false) where
+    own-accepted : isRefused (chosen .answer) ≡ false
+    own-accepted = by-test (isRefused (chosen .answer))
+        (λ turned. absurd (never (sym turned ∙ ap (λ c. isRefused (c .answer)) (sym (only-refused m (eventRecord e) 19 chosen turned)) ∙ accepts)))
+        (λ ok. ok)
+
+    differs-not : sameRecord (recordOf (chosen .answer)) (eventRecord e) ≡ true
+    differs-not = by-test (sameRecord (recordOf (chosen .answer)) (eventRecord e))
+        (λ same. same)
+        (λ other. absurd (never (ap (λ c. isRefused (c .answer)) (sym (only-other m (eventRecord e) 19 chosen own-accepted other)) ∙ accepts)))
+
+    pub taken-chosen : takeOffered S m e ≡ chosen
+    taken-chosen = only-same m (eventRecord e) 19 chosen own-accepted differs-not
+
+    pub taken-event : takeOffered S m e .answer ≡ eventOf e
+    taken-event = ap (λ c. c .answer) taken-chosen ∙ same-event (chosen .answer) e own-accepted differs-not
+
+  own-unchanged : (a : Answer) → chosen .answer ≡ a → isRefused a ≡ true → chosen .machine ≡ m
+  own-unchanged (Started l p t k w) told turned = absurd (never (sym turned))
+  own-unchanged (Finished l p t k w) told turned = absurd (never (sym turned))
+  own-unchanged (Stopped l w) told turned = absurd (never (sym turned))
+  own-unchanged (Refused n) told turned = refused-unchanged S m (eventRecord e .worker) (eventRecord e .line) n told
+
+  -- and one that is refused changes nothing
+  pub taken-unchanged : isRefused (takeOffered S m e .answer) ≡ true → takeOffered S m e .machine ≡ m
+  taken-unchanged refused = elim (see (isRefused (chosen .answer))) [
+    | holds turned ↦
+      let same = only-refused m (eventRecord e) 19 chosen turned in
+      ap (λ c. c .machine) same ∙ own-unchanged (chosen .answer) refl turned
+    | fails ok ↦ elim (see (sameRecord (recordOf (chosen .answer)) (eventRecord e))) [
+      | holds same ↦ absurd (never (sym refused ∙ ap (λ c. isRefused (c .answer)) (only-same m (eventRecord e) 19 chosen ok same) ∙ ok))
+      | fails other ↦ ap (λ c. c .machine) (only-other m (eventRecord e) 19 chosen ok other)
+    ]
+  ]

@@ -14,7 +14,7 @@ use Rattle.tables.specs.declared.Hold.{Hold}
 use Rattle.tables.specs.Facts.{newHold, leftHold}
 use Rattle.tables.specs.State.{InRange, soundOf}
 use Rattle.tables.specs.Taking.{takeOf, takenOf, takenMemory, offeredOf}
-use Rattle.tables.specs.Releasing.{releaseOf, releasedOf, releasedMemory}
+use Rattle.tables.specs.Releasing.{releaseOf, releasedOf, releasedMemory, passes}
 use Rattle.tables.specs.Calls.{safeNewHold, safeLeftHold, safeTake, safeRelease}
 use Rattle.tables.proofs.memory.Ranges.{sound-range}
 
@@ -55,6 +55,14 @@ module _ (t : Tables) (m : List ℕ) {r : Bool} (told : r ≡ soundOf (t, m)) wh
   pub releases-none : (d : ℕ) → r ≡ false → (Released.Broken ≡ releasedOf (safeRelease d (t, m))) × (m ≡ releasedMemory m (safeRelease d (t, m)))
   unfolding safeRelease releasedOf releasedMemory
   releases-none d e = rw (← told, e) (refl, refl)
+
+  pub passes-too : (d : ℕ) {a : Bool} → r ≡ true → a ≡ passes (releaseOf t d m) → a ≡ passes (safeRelease d (t, m))
+  unfolding safeRelease
+  passes-too d e g = rw (← told, e) g
+
+  pub passes-not : (d : ℕ) → r ≡ false → false ≡ passes (safeRelease d (t, m))
+  unfolding safeRelease
+  passes-not d e = rw (← told, e)
 
 -- what holds one token
 module _ (m : List ℕ) (count t : ℕ) where

@@ -16,7 +16,7 @@ use Rattle.tables.specs.declared.Tally.{Tally}
 use Rattle.tables.specs.Facts.{leftHold}
 use Rattle.tables.specs.State.{State, tableOf, watchesOf}
 use Rattle.tables.specs.Releasing.{isFree, isHeld, isUnsound, siftedFrom, tallyOf, watchersIn, wokenIn, unsoundIn, movedTables, movedMemory, releaseOf, releasedOf}
-use Rattle.tables.specs.Releasing.{releasedMemory}
+use Rattle.tables.specs.Releasing.{releasedMemory, passes}
 use Rattle.tables.proofs.memory.PickLaws.{still-watching}
 use Rattle.tables.proofs.memory.FactsLaws.{left-by}
 use Rattle.tables.proofs.code.SiftLaws.{sifted-end, watcher-next}
@@ -66,6 +66,17 @@ tally-nobody hold e = rw e
 -- what a code's answer and memory are to be, for an outcome
 abbrev pub Gives : List ℕ → Outcome State → Released → List ℕ → Type 0
 Gives m o r m′ = (r ≡ releasedOf o) × (m′ ≡ releasedMemory m o)
+
+-- whether it passes, by what the code returns
+pub told-broken : (o : Outcome State) → Released.Broken ≡ releasedOf o → false ≡ passes o
+unfolding releasedOf
+told-broken Broken e = refl
+told-broken (Passed x) e = let z : _≡_ {A = ℕ} 0 1 = cc in absurd (omega arith)
+
+pub told-passed : (o : Outcome State) {t : Tables} → Released.Passed t ≡ releasedOf o → true ≡ passes o
+unfolding releasedOf
+told-passed Broken e = let z : _≡_ {A = ℕ} 0 1 = cc in absurd (omega arith)
+told-passed (Passed x) e = refl
 
 -- a release, by the token, the count of those that wake, and the room
 module _ (t : Tables) (d : ℕ) (m : List ℕ) where
