@@ -7,5 +7,7 @@ pub mod Parts
 pub mod StartLaws
 -- a finish;
 pub mod FinishLaws
--- the choice.
+-- the choice;
 pub mod ChooseLaws
+-- and the taking of a record.
+pub mod TakeLaws

@@ -11,8 +11,11 @@ use Rattle.vocabulary.specs.declared.Worker.{Worker}
 use Rattle.vocabulary.specs.declared.Slot.{Slot}
 use Rattle.vocabulary.specs.declared.Slots.{Slots}
 use Rattle.vocabulary.specs.declared.answer.Answer.{Answer}
+use Rattle.vocabulary.specs.declared.answer.Step.{Step}
+use Rattle.vocabulary.specs.declared.event.Event.{Event}
 use Rattle.rules.specs.RunState.{Machine, waits, slotAt, putSlot, counterAt, slotOf, full}
 use Rattle.rules.specs.Choices.{Chosen, Finished, next, moved, withPlace, startFirst}
+use Rattle.rules.specs.Answers.{answerOf}
 use Rattle.rules.specs.Sources.{Taken, Spoiled, Nothing, Took}
 use Rattle.tables.specs.declared.Tables.{Tables}
 use Rattle.tables.specs.Calls.{memorySource, safeTake}
@@ -68,10 +71,20 @@ finishedOf m l c x =
       machine = withPlace m c (putSlot (m .slots) l (moved (m .pipes) s)) (m .placed) (m .stopped) x;
     }
 
+-- a finish by its slot, as a step; its answer, and its event
+abbrev pub finishedStep : Line → Slot → Step
+finishedStep line slot = record { line = line; pipe = slot .pipe; token = slot .token; place = slot .place; worker = slot .worker }
+
+abbrev pub finishedAnswer : Line → Slot → Answer
+finishedAnswer line slot = Answer.Finished (finishedStep line slot)
+
+abbrev pub finishedEvent : ℕ → Slot → Event
+finishedEvent l slot = Event.Finished (finishedStep (record { 0 = l }) slot)
+
 -- a finish, worked out
 abbrev pub settledTurn : Figures → Line → Slot → Falls → Tables → Turn
 settledTurn f line slot x t = Turn.Made (record {
-  answer = Answer.Finished (record { line = line; pipe = slot .pipe; token = slot .token; place = slot .place; worker = slot .worker });
+  answer = finishedAnswer line slot;
   first = x .first;
   second = x .second;
   slot = moved (f .pipes) slot;
@@ -125,3 +138,9 @@ StartsFirst f counters w l slot turn m m′ =
     (slots : Slots) → slotAt slots l ≡ slot →
     chosenOf (turned (whole f counters slots) l turn) m′ ≡
     startFirst memorySource (machineOf (whole f counters slots) m) w l (safeTake (f .tables, m))
+
+-- an answer is that of the start at pipe 0 with what the tables give, in every state with these figures
+abbrev pub AnswersFirst : Figures → ℕ → ℕ → Answer → List ℕ → Type 0
+AnswersFirst f w l a m =
+    (counters : List ℕ) (slots : Slots) →
+    answerOf a ≡ startFirst memorySource (machineOf (whole f counters slots) m) w l (safeTake (f .tables, m)) .answer

@@ -22,8 +22,8 @@ ghost use Rattle.rules.specs.Lists.{if};
 ghost use Rattle.rules.specs.Choices.{next, moved as movedOf, finish as finishedBy};
 ghost use Rattle.tables.specs.Calls.{memorySource};
 ghost use Rattle.state.specs.Machines.{Ready};
-ghost use Rattle.engine.specs.Turns.{Fits, Follows};
-ghost use Rattle.engine.specs.Moves.{fallsOf, bothOf, settledTurn};
+ghost use Rattle.engine.specs.Turns.{Fits, Follows, AnswersAs};
+ghost use Rattle.engine.specs.Moves.{fallsOf, bothOf, finishedAnswer, settledTurn};
 
 // The counters that fall, and whether they can: none goes below 0.
 pub struct Falls {
@@ -142,25 +142,32 @@ fn both_falls(f: Figures, slot: Slot, counters: &[u8; 512], l: u16) -> Falls
     fall(flag, beside, counters[beside], ahead, counters[ahead])
 }
 
-// The finish, with the counters that fall and the tables that it leaves.
-fn settle(f: Figures, slot: Slot, line: Line, fallen: Falls, t: Tables) -> Turn
-    requires { ⌜ slot .pipe .0 < f .pipes ⌝ }
-    ensures { λ r. ⌜ r ≡ settledTurn f line slot fallen t ⌝ }
+// The answer of a finish.
+pub(crate) fn finished(slot: Slot, line: Line) -> Answer
+    ensures { λ r. ⌜ r ≡ finishedAnswer line slot ⌝ }
 {
     let pipe = slot.pipe;
     let token = slot.token;
     let place = slot.place;
     let worker = slot.worker;
+    Answer::Finished(Step {
+        line,
+        pipe,
+        token,
+        place,
+        worker,
+    })
+}
+
+// The finish, with the counters that fall and the tables that it leaves.
+fn settle(f: Figures, slot: Slot, line: Line, fallen: Falls, t: Tables) -> Turn
+    requires { ⌜ slot .pipe .0 < f .pipes ⌝ }
+    ensures { λ r. ⌜ r ≡ settledTurn f line slot fallen t ⌝ }
+{
     let first = fallen.first;
     let second = fallen.second;
     Turn::Made(Change {
-        answer: Answer::Finished(Step {
-            line,
-            pipe,
-            token,
-            place,
-            worker,
-        }),
+        answer: finished(slot, line),
         first,
         second,
         slot: moved(slot, f.pipes),
@@ -194,4 +201,29 @@ pub(crate) fn finish(
         Released::Broken => Turn::Refused(Refusal::Spoiled),
         Released::Passed(after) => settle(f, slot, line, fallen, after),
     }
+}
+
+// What a finish would answer.
+pub(crate) fn would_finish(
+    f: Figures,
+    slot: Slot,
+    counters: &[u8; 512],
+    mem: &[u16],
+    line: Line,
+) -> Answer
+    requires { ⌜ Ready f slot (line .0) ⌝ }
+    ensures { λ r. ⌜ AnswersAs (finishedBy memorySource) f (now (counters .entry)) (line .0) slot r (now (mem .entry)) ⌝ }
+{
+    let fallen = both_falls(f, slot, counters, line.0);
+    if !fallen.ok {
+        return Answer::Refused(Refusal::Spoiled);
+    }
+    if slot.pipe.0 != 0 {
+        return finished(slot, line);
+    }
+    let t = f.tables;
+    if releasing::would_release(mem, t, slot.token.0) {
+        return finished(slot, line);
+    }
+    Answer::Refused(Refusal::Spoiled)
 }

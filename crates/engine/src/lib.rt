@@ -1,11 +1,15 @@
-// The engine: each choice moves a run on.
+// The engine: each choice moves a run on; an offer tells what it would answer, and an event that was offered can be taken.
 mod finishing;
+mod offering;
 mod starting;
 mod turn;
 
+pub use offering::offer;
+pub use offering::take_offered;
 use state::COUNTERS_OF_LINE;
 use state::Figures;
 use state::State;
+use turn::Move;
 use turn::Turn;
 use vocabulary::Answer;
 use vocabulary::Line;
@@ -13,14 +17,13 @@ use vocabulary::Refusal;
 use vocabulary::Slot;
 use vocabulary::Slots;
 use vocabulary::Worker;
-ghost use mathlib.Core.Bool.{false};
 ghost use mathlib.Core.Path.{_≡_};
 ghost use Rattle.rules.specs.Choices.{choose as chosenBy};
 ghost use Rattle.tables.specs.Calls.{memorySource};
 ghost use Rattle.state.specs.Machines.{machineOf, whole, Ready};
 ghost use Rattle.state.specs.Ending.{isEarly};
 ghost use Rattle.engine.specs.Machines.{chosenOf};
-ghost use Rattle.engine.specs.Turns.{turned, Fits, MovesAs};
+ghost use Rattle.engine.specs.Turns.{turned, Fits, Tells};
 
 // What a choice returns: its answer, and the state after it.
 pub struct Chosen {
@@ -40,31 +43,45 @@ fn is_early(f: Figures, slot: Slot, counters: &[u8; 512], l: u16) -> bool
     counters[at] != 0
 }
 
-// A choice of a worker below W and a line below L that can move: what the line does, and whether the worker runs one, is known.
-fn move_line(
+// The checks of a choice, up to its start or finish: what the line does then.
+fn move_of(
     f: Figures,
-    slot: Slot,
-    busy: bool,
+    slots: Slots,
     counters: &[u8; 512],
-    mem: &mut [u16],
+    mem: &[u16],
     worker: Worker,
     line: Line,
-) -> Turn
-    requires { ⌜ Ready f slot (line .0) ⌝ }
-    requires { ⌜ isEarly (now counters) slot (line .0) ≡ false ⌝ }
-    ensures fits { λ r. ⌜ Fits (line .0) r ⌝ }
-    ensures moves { λ r. ⌜ MovesAs f (now (counters .entry)) slot busy (worker .0) (line .0) r (now (mem .entry)) (now (mem .exit)) ⌝ }
+) -> Move
+    ensures { λ r. ⌜ Tells f (now (counters .entry)) slots (worker .0) (line .0) (now (mem .entry)) r ⌝ }
 {
+    let seen = ranges::look_over(f, slots, counters, mem, worker.0, line.0);
+    if !seen.sound {
+        return Move::Refused(Refusal::Spoiled);
+    }
+    if f.lines <= line.0 {
+        return Move::Refused(Refusal::NoLine);
+    }
+    if f.workers <= worker.0 {
+        return Move::Refused(Refusal::WrongWorker);
+    }
+    let slot = seen.slot;
+    // A run in which a line can move has not ended, so only where this one cannot are the others looked at.
+    if is_early(f, slot, counters, line.0) {
+        if state::is_over(f.stopped, f.lines, slots, counters) {
+            return Move::Refused(Refusal::Ended);
+        }
+        return Move::Refused(Refusal::Early);
+    }
     if slot.running {
         if slot.worker.0 != worker.0 {
-            return Turn::Refused(Refusal::WrongWorker);
+            return Move::Refused(Refusal::WrongWorker);
         }
-        return finishing::finish(f, slot, counters, mem, line);
+        return Move::Finish(slot);
     }
-    if busy {
-        return Turn::Refused(Refusal::WorkerBusy);
+    if seen.busy {
+        return Move::Refused(Refusal::WorkerBusy);
     }
-    starting::start(f, slot, mem, worker, line)
+    Move::Start(slot)
 }
 
 // A choice, worked out.
@@ -80,25 +97,11 @@ fn turn_of(
     ensures chooses { λ r. ⌜ chosenOf (turned (whole f (now (counters .entry)) slots) (line .0) r) (now (mem .exit)) ≡
         chosenBy memorySource (machineOf (whole f (now (counters .entry)) slots) (now (mem .entry))) (worker .0) (line .0) ⌝ }
 {
-    let seen = ranges::look_over(f, slots, counters, mem, worker.0, line.0);
-    if !seen.sound {
-        return Turn::Refused(Refusal::Spoiled);
+    match move_of(f, slots, counters, mem, worker, line) {
+        Move::Refused(why) => Turn::Refused(why),
+        Move::Start(slot) => starting::start(f, slot, mem, worker, line),
+        Move::Finish(slot) => finishing::finish(f, slot, counters, mem, line),
     }
-    if f.lines <= line.0 {
-        return Turn::Refused(Refusal::NoLine);
-    }
-    if f.workers <= worker.0 {
-        return Turn::Refused(Refusal::WrongWorker);
-    }
-    let slot = seen.slot;
-    // A run in which a line can move has not ended, so only where this one cannot are the others looked at.
-    if is_early(f, slot, counters, line.0) {
-        if state::is_over(f.stopped, f.lines, slots, counters) {
-            return Turn::Refused(Refusal::Ended);
-        }
-        return Turn::Refused(Refusal::Early);
-    }
-    move_line(f, slot, seen.busy, counters, mem, worker, line)
 }
 
 // A choice names a worker and a line: the line starts, finishes or stops, or the choice is refused.

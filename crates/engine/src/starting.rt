@@ -24,8 +24,8 @@ ghost use Prim.Native.Nat.{ℕ, _<_};
 ghost use Rattle.rules.specs.Choices.{start as startedBy};
 ghost use Rattle.tables.specs.Calls.{memorySource};
 ghost use Rattle.state.specs.Machines.{Ready};
-ghost use Rattle.engine.specs.Turns.{Fits, Follows};
-ghost use Rattle.engine.specs.Moves.{overfullOf, refilled, startedTurn, takenTurn, stoppedTurn, StartsFirst};
+ghost use Rattle.engine.specs.Turns.{Fits, Follows, AnswersAs};
+ghost use Rattle.engine.specs.Moves.{overfullOf, refilled, startedTurn, takenTurn, stoppedTurn, StartsFirst, AnswersFirst};
 
 // The counter of a line and pipe, full again.
 fn refill(f: Figures, l: usize, p: usize) -> Cell
@@ -153,4 +153,46 @@ pub(crate) fn start(f: Figures, slot: Slot, mem: &mut [u16], worker: Worker, lin
         return start_first(f, slot, mem, worker, line);
     }
     start_at(f, worker, line, slot)
+}
+
+// What a start at pipe 0 would answer.
+fn would_start_first(f: Figures, mem: &[u16], worker: Worker, line: Line) -> Answer
+    ensures { λ r. ⌜ AnswersFirst f (worker .0) (line .0) r (now (mem .entry)) ⌝ }
+{
+    let t = f.tables;
+    match taking::would_take(mem, t) {
+        Offer::Spoiled => Answer::Refused(Refusal::Spoiled),
+        Offer::Nothing => Answer::Stopped(Stop { line, worker }),
+        Offer::Token(token) => {
+            if f.tables.tokens <= f.placed {
+                return Answer::Refused(Refusal::Spoiled);
+            }
+            Answer::Started(Step {
+                line,
+                pipe: Pipe(0),
+                token: Token(token),
+                place: Place(f.placed),
+                worker,
+            })
+        }
+    }
+}
+
+// What a start would answer.
+pub(crate) fn would_start(f: Figures, slot: Slot, mem: &[u16], worker: Worker, line: Line) -> Answer
+    ensures { λ r. ⌜ ((counters : List ℕ) → AnswersAs (λ m l. startedBy memorySource m (worker .0) l) f counters (line .0) slot r (now (mem .entry))) ⌝ }
+{
+    if slot.pipe.0 == 0 {
+        return would_start_first(f, mem, worker, line);
+    }
+    let pipe = slot.pipe;
+    let token = slot.token;
+    let place = slot.place;
+    Answer::Started(Step {
+        line,
+        pipe,
+        token,
+        place,
+        worker,
+    })
 }

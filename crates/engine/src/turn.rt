@@ -25,3 +25,16 @@ pub enum Turn {
     Refused(Refusal),
     Made(Change),
 }
+
+// What the checks of a choice come to: it is refused, or the line starts or finishes the pipe of its slot.
+pub enum Move {
+    Refused(Refusal),
+    Start(Slot),
+    Finish(Slot),
+}
+
+// How an answer compares with the record of an event: it is that event, or the choice is refused.
+pub enum Comparison {
+    Same,
+    Refused(Refusal),
+}

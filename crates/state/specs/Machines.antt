@@ -12,6 +12,18 @@ use Rattle.state.specs.declared.Figures.{Figures}
 abbrev pub slotsOf : State → Slots
 slotsOf s = record { at = s .at; running = s .running; token = s .token; place = s .place; worker = s .worker }
 
+-- the rest of it but for the counters
+abbrev pub figuresOf : State → Figures
+figuresOf s = record {
+  pipes = s .pipes;
+  lines = s .lines;
+  workers = s .workers;
+  placed = s .placed;
+  stopped = s .stopped;
+  tables = s .tables;
+  serial = s .serial;
+}
+
 -- the machine of a state and its memory
 unfoldable pub machineOf : State → List ℕ → Machine tables.State
 machineOf s mem =

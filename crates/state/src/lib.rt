@@ -24,7 +24,7 @@ ghost use Prim.Native.Nat.{ℕ};
 ghost use Rattle.rules.specs.Ranges.{sound as soundBy};
 ghost use Rattle.rules.specs.Choices.{ended as endedBy};
 ghost use Rattle.tables.specs.Calls.{memorySource};
-ghost use Rattle.state.specs.Machines.{machineOf};
+ghost use Rattle.state.specs.Machines.{machineOf, slotsOf, figuresOf};
 ghost use Rattle.state.specs.Ending.{endedOf};
 
 // The state of a run: P, L, W, how many tokens have a place, whether the run is marked stopped, the numbers of the token tables,
@@ -57,22 +57,48 @@ pub struct Figures {
     pub serial: [bool; 16],
 }
 
+impl State {
+    // What its lines do.
+    pub fn slots(self) -> Slots
+        ensures { λ r. ⌜ r ≡ slotsOf self ⌝ }
+    {
+        let at = self.at;
+        let running = self.running;
+        let token = self.token;
+        let place = self.place;
+        let worker = self.worker;
+        Slots {
+            at,
+            running,
+            token,
+            place,
+            worker,
+        }
+    }
+
+    // The rest of it but for the counters.
+    pub fn figures(self) -> Figures
+        ensures { λ r. ⌜ r ≡ figuresOf self ⌝ }
+    {
+        let serial = self.serial;
+        let t = self.tables;
+        Figures {
+            pipes: self.pipes,
+            lines: self.lines,
+            workers: self.workers,
+            placed: self.placed,
+            stopped: self.stopped,
+            tables: t,
+            serial,
+        }
+    }
+}
+
 // Whether the run has ended; no where a line or a pipe lies outside the tables.
 pub fn ended(s: State) -> bool
     ensures answer { λ r. ⌜ r ≡ endedOf s ⌝ }
     ensures rules { λ r. ⌜ ((m : List ℕ) → soundBy memorySource (machineOf s m) ≡ true → r ≡ endedBy (machineOf s m)) ⌝ }
 {
-    let at = s.at;
-    let running = s.running;
-    let token = s.token;
-    let place = s.place;
-    let worker = s.worker;
-    let slots = Slots {
-        at,
-        running,
-        token,
-        place,
-        worker,
-    };
+    let slots = s.slots();
     is_over(s.stopped, s.lines, slots, &s.counters)
 }

@@ -21,11 +21,12 @@ use Rattle.rules.specs.Sources.{Released as Outcome, Broken, Passed}
 use Rattle.rules.specs.Choices.{next, moved, fall, refuse, settle, finishWith, finishFirst, finish}
 use Rattle.rules.specs.Choices as rules
 use Rattle.rules.specs.Answers.{answerOf}
-use Rattle.rules.proofs.lists.Tests.{by-test, lower, upper, below}
+use Rattle.rules.specs.Offers.{isRefused, eventOf}
+use Rattle.rules.proofs.lists.Tests.{by-test, never, lower, upper, below}
 use Rattle.tables.specs.declared.Tables.{Tables}
 use Rattle.tables.specs.declared.Released.{Released}
 use Rattle.tables.specs.State as tables
-use Rattle.tables.specs.Releasing.{releasedOf, releasedMemory}
+use Rattle.tables.specs.Releasing.{releasedOf, releasedMemory, passes}
 use Rattle.tables.specs.Calls.{safeRelease, memorySource}
 use Rattle.state.specs.declared.State.{State}
 use Rattle.state.specs.declared.Figures.{Figures}
@@ -35,7 +36,7 @@ use Rattle.state.specs.Machines.{machineOf}
 use Rattle.engine.specs.Machines.{chosenOf}
 use Rattle.state.specs.Machines.{whole}
 use Rattle.engine.specs.Turns.{turned}
-use Rattle.engine.specs.Moves.{fallsOf, bothOf, fallen, finishedOf, settledTurn}
+use Rattle.engine.specs.Moves.{fallsOf, bothOf, fallen, finishedOf, finishedAnswer, finishedEvent, settledTurn}
 use Rattle.engine.proofs.moves.Parts.{parts, refused}
 use Rattle.engine.proofs.moves.Kept.{was-broken, was-passed}
 
@@ -90,9 +91,9 @@ both-told f counters l slot {a} {b} {x} a-is b-is h k x-is = (
 
 module _ (f : Figures) (line : Line) (slot : Slot) where
   -- the code's turn, with the slot that it worked out
-  pub settled-with : (x : Falls) (t : Tables) {after : Slot} → after ≡ moved (f .pipes) slot →
+  pub settled-with : (x : Falls) (t : Tables) {answer : Answer} {after : Slot} → answer ≡ finishedAnswer line slot → after ≡ moved (f .pipes) slot →
       Turn.Made (record {
-        answer = Answer.Finished (record { line = line; pipe = slot .pipe; token = slot .token; place = slot .place; worker = slot .worker });
+        answer = answer;
         first = x .first;
         second = x .second;
         slot = after;
@@ -101,7 +102,7 @@ module _ (f : Figures) (line : Line) (slot : Slot) where
         tables = t;
       }) ≡
       settledTurn f line slot x t
-  settled-with x t e = rw e
+  settled-with x t a e = rw (a, e)
 
 module _ (f : Figures) (counters : List ℕ) (slots : Slots) (line : Line) (slot : Slot) (at : slotAt slots (line .0) ≡ slot) where
   abbrev s : State
@@ -138,6 +139,35 @@ module _ (f : Figures) (counters : List ℕ) (slots : Slots) (line : Line) (slot
       (λ g. rw (at, b, e, left, g))))
       (λ b. by-test (eqb (getD counters ahead 0) 0) (λ e. rw (at, b, e)) (λ e. rw (at, b, e, set-getD counters ahead 0)))
 
+  -- a finish that is not refused gives the slot's event
+  module _ (mem : List ℕ) where
+    with-event : (y : tables.State) → isRefused (finishWith memorySource (machineOf s mem) (line .0) slot y .answer) ≡ false →
+        answerOf (finishedAnswer line slot) ≡ finishWith memorySource (machineOf s mem) (line .0) slot y .answer
+    unfolding answerOf machineOf
+    with-event y ok = by-test (both .ok)
+        (λ b. rw (with-falls mem y, b) (rw at))
+        (λ b. absurd (never (rw (with-falls mem y, b) at ok)))
+
+    first-event : (o : Outcome tables.State) → isRefused (finishFirst memorySource (machineOf s mem) (line .0) slot o .answer) ≡ false →
+        answerOf (finishedAnswer line slot) ≡ finishFirst memorySource (machineOf s mem) (line .0) slot o .answer
+    unfolding finishFirst
+    first-event Broken ok = absurd (never ok)
+    first-event (Passed y) ok = with-event y ok
+
+    pub finish-event : isRefused (finish memorySource (machineOf s mem) (line .0) .answer) ≡ false →
+        answerOf (finishedAnswer line slot) ≡ finish memorySource (machineOf s mem) (line .0) .answer
+    unfolding finish machineOf
+    finish-event ok = by-test (eqb (slot .pipe .0) 0)
+        (λ b. rw (at, b) (first-event (safeRelease (slot .token .0) (f .tables, mem)) (rw (at, b) at ok)))
+        (λ b. rw (at, b) (with-event (f .tables, mem) (rw (at, b) at ok)))
+
+    -- so too a choice that is the finish
+    pub finish-tells : {c : rules.Chosen tables.State} → finish memorySource (machineOf s mem) (line .0) ≡ c → isRefused (c .answer) ≡ false →
+        eventOf (finishedEvent (line .0) slot) ≡ c .answer
+    unfolding answerOf
+    finish-tells {c} e ok =
+        finish-event (ap (λ x. isRefused (x .answer)) e ∙ ok) ∙ ap (λ x. x .answer) e
+
   module _ (mem : List ℕ) {x : Falls} (x-is : x ≡ both) where
     -- what the tables make of the token's finish
     abbrev given : Outcome tables.State
@@ -146,6 +176,10 @@ module _ (f : Figures) (counters : List ℕ) (slots : Slots) (line : Line) (slot
     -- the turn of the line is what the rules make of it
     abbrev Turns : Turn → List ℕ → Type 0
     Turns r mem′ = chosenOf (turned s (line .0) r) mem′ ≡ finish memorySource (machineOf s mem) (line .0)
+
+    -- the answer of a finish
+    abbrev Answers : Answer → Type 0
+    Answers a = answerOf a ≡ finish memorySource (machineOf s mem) (line .0) .answer
 
     -- a fall below 0
     low : (o : Outcome tables.State) → x .ok ≡ false → finishFirst memorySource (machineOf s mem) (line .0) slot o ≡ refuse (machineOf s mem) 14
@@ -159,6 +193,10 @@ module _ (f : Figures) (counters : List ℕ) (slots : Slots) (line : Line) (slot
         (λ b. rw (at, b) (sym (low given e)))
         (λ b. rw (at, b) (sym (with-falls mem (f .tables, mem) ∙ rw (← x-is, e))))
 
+    pub would-low : x .ok ≡ false → Answers (Answer.Refused Refusal.Spoiled)
+    unfolding chosenOf
+    would-low e = ap (λ c. c .answer) (finish-low e)
+
     module _ (fell : x .ok ≡ true) where
       counted : (t : Tables) (m : List ℕ) → t .tokens ≡ f .tables .tokens →
           chosenOf (turned s (line .0) (settledTurn f line slot x t)) m ≡ finishWith memorySource (machineOf s mem) (line .0) slot (t, m)
@@ -168,6 +206,35 @@ module _ (f : Figures) (counters : List ℕ) (slots : Slots) (line : Line) (slot
       pub finish-later : {r : Turn} → (slot .pipe .0 ≡ 0 → ⊥) → r ≡ settledTurn f line slot x (f .tables) → Turns r mem
       unfolding finish machineOf
       finish-later n r-is = rw (r-is, at, ne-eqb (slot .pipe .0) 0 n) (counted (f .tables) mem refl)
+
+      pub would-later : {a : Answer} → (slot .pipe .0 ≡ 0 → ⊥) → a ≡ finishedAnswer line slot → Answers a
+      unfolding chosenOf
+      would-later n a-is = ap answerOf a-is ∙ ap (λ c. c .answer) (finish-later n refl)
+
+      -- at pipe 0, by whether the tables would let it pass
+      module _ (first : slot .pipe .0 ≡ 0) {b : Bool} (told : b ≡ passes given) where
+        first-is : finishFirst memorySource (machineOf s mem) (line .0) slot given ≡ finish memorySource (machineOf s mem) (line .0)
+        unfolding finish machineOf
+        first-is = rw (at, eq-eqb (slot .pipe .0) 0 first)
+
+        would-by : (o : Outcome tables.State) → passes o ≡ true → answerOf (finishedAnswer line slot) ≡ finishFirst memorySource (machineOf s mem) (line .0) slot o .answer
+        unfolding finishFirst answerOf machineOf
+        would-by Broken e = let z : _≡_ {A = ℕ} 0 1 = cc in absurd (omega arith)
+        would-by (Passed y) e =
+            let fallen-is : finishWith memorySource (machineOf s mem) (line .0) slot y ≡ finishedOf (machineOf s mem) (line .0) (fallen counters x) y =
+            with-falls mem y ∙ rw (← x-is, fell) in
+            rw fallen-is (rw at)
+
+        would-not : (o : Outcome tables.State) → passes o ≡ false → answerOf (Answer.Refused Refusal.Spoiled) ≡ finishFirst memorySource (machineOf s mem) (line .0) slot o .answer
+        unfolding finishFirst answerOf
+        would-not Broken e = refl
+        would-not (Passed y) e = let z : _≡_ {A = ℕ} 0 1 = cc in absurd (omega arith)
+
+        pub would-pass : {a : Answer} → b ≡ true → a ≡ finishedAnswer line slot → Answers a
+        would-pass e a-is = ap answerOf a-is ∙ would-by given (sym told ∙ e) ∙ ap (λ c. c .answer) first-is
+
+        pub would-broken : b ≡ false → Answers (Answer.Refused Refusal.Spoiled)
+        would-broken e = would-not given (sym told ∙ e) ∙ ap (λ c. c .answer) first-is
 
       -- at pipe 0, by what the tables made of it
       module _ (first : slot .pipe .0 ≡ 0) {a : Released} (told : a ≡ releasedOf given) where

@@ -6,6 +6,7 @@ use Prim.Native.Nat.{ℕ, _<_}
 use Rattle.vocabulary.specs.declared.Slots.{Slots}
 use Rattle.vocabulary.specs.declared.refusal.Refusal.{Refusal}
 use Rattle.vocabulary.specs.Refusals.{numberOf}
+use Rattle.rules.specs.RunState.{Machine}
 use Rattle.rules.specs.Choices.{withPlace, refuse}
 use Rattle.rules.specs.Choices as rules
 use Rattle.tables.specs.declared.Tables.{Tables}
@@ -14,7 +15,8 @@ use Rattle.state.specs.declared.State.{State}
 use Rattle.engine.specs.declared.Chosen.{Chosen}
 use Rattle.engine.specs.declared.turn.Change.{Change}
 use Rattle.engine.specs.declared.turn.Turn.{Turn}
-use Rattle.state.specs.Machines.{machineOf}
+use Rattle.state.specs.declared.Figures.{Figures}
+use Rattle.state.specs.Machines.{slotsOf, figuresOf, machineOf, whole}
 use Rattle.engine.specs.Machines.{refusedBy, chosenOf}
 use Rattle.engine.specs.Turns.{turned, Fits}
 use Rattle.rules.specs.Answers.{answerOf}
@@ -76,3 +78,13 @@ made-within l r-is h = rw r-is at h
 -- what a turn makes of a state, by what the turn is
 pub turned-as : (s : State) (l : ℕ) (m : List ℕ) {r x : Turn} {c : rules.Chosen tables.State} → r ≡ x → chosenOf (turned s l r) m ≡ c → chosenOf (turned s l x) m ≡ c
 turned-as s l m e h = rw e at h
+
+-- what was worked out on a state's parts holds of the state: of an answer, and of a turn
+module _ (s : State) {f : Figures} {slots : Slots} (f-is : f ≡ figuresOf s) (slots-are : slots ≡ slotsOf s) (m : List ℕ) where
+  pub answered-of : (rule : Machine tables.State → rules.Answer) {a : rules.Answer} → a ≡ rule (machineOf (whole f (s .counters) slots) m) → a ≡ rule (machineOf s m)
+  answered-of rule h = rw (f-is, slots-are) at h
+
+  pub turned-of : (rule : Machine tables.State → rules.Chosen tables.State) (l : ℕ) (m′ : List ℕ) {turn told : Turn} → turn ≡ told →
+      chosenOf (turned (whole f (s .counters) slots) l turn) m′ ≡ rule (machineOf (whole f (s .counters) slots) m) →
+      chosenOf (turned s l told) m′ ≡ rule (machineOf s m)
+  turned-of rule l m′ turn-is h = rw (f-is, slots-are, turn-is) at h

@@ -15,7 +15,7 @@ use Rattle.vocabulary.specs.declared.Slot.{Slot}
 use Rattle.vocabulary.specs.declared.Slots.{Slots}
 use Rattle.vocabulary.specs.declared.answer.Answer.{Answer}
 use Rattle.vocabulary.specs.declared.refusal.Refusal.{Refusal}
-use Rattle.rules.specs.RunState.{slotAt, putSlot, counterAt}
+use Rattle.rules.specs.RunState.{Machine, slotAt, putSlot, counterAt}
 use Rattle.rules.specs.Sources.{Taken as Outcome, Spoiled, Nothing, Took}
 use Rattle.rules.specs.Choices.{refuse, startFirst, startLater, start}
 use Rattle.rules.specs.Choices as rules
@@ -191,3 +191,66 @@ module _ (f : Figures) (counters : List ℕ) (slots : Slots) (worker : Worker) (
           chosenOf (turned s (line .0) r) mem ≡ start memorySource (machineOf s mem) (worker .0) (line .0)
       unfolding start machineOf
       start-later n r-is = rw (r-is, at, ne-eqb (slot .pipe .0) 0 n) (started slot mem)
+
+-- what a start would answer
+module _ (f : Figures) (counters : List ℕ) (slots : Slots) (worker : Worker) (line : Line) (mem : List ℕ) where
+  abbrev machine : Machine tables.State
+  machine = machineOf (whole f counters slots) mem
+
+  -- at pipe 0, by what the tables would give
+  abbrev FirstAnswers : Outcome tables.State → rules.Answer → Type 0
+  FirstAnswers o a = a ≡ startFirst memorySource machine (worker .0) (line .0) o .answer
+
+  by-spoiled : (o : Outcome tables.State) → offeredOf o ≡ Offer.Spoiled → FirstAnswers o (rules.Refused 14)
+  unfolding offeredOf startFirst
+  by-spoiled Spoiled e = refl
+  by-spoiled (Nothing x) e = let z : _≡_ {A = ℕ} 0 1 = cc in absurd (omega arith)
+  by-spoiled (Took k x) e = let z : _≡_ {A = ℕ} 0 1 = cc in absurd (omega arith)
+
+  by-nothing : (o : Outcome tables.State) → offeredOf o ≡ Offer.Nothing → FirstAnswers o (rules.Stopped (line .0) (worker .0))
+  unfolding offeredOf startFirst
+  by-nothing Spoiled e = let z : _≡_ {A = ℕ} 0 1 = cc in absurd (omega arith)
+  by-nothing (Nothing x) e = refl
+  by-nothing (Took k x) e = let z : _≡_ {A = ℕ} 0 1 = cc in absurd (omega arith)
+
+  by-token : (o : Outcome tables.State) {k : ℕ} → offeredOf o ≡ Offer.Token k →
+      FirstAnswers o (if (ltb (f .placed) (f .tables .tokens)) (rules.Started (line .0) 0 k (f .placed) (worker .0)) (rules.Refused 14))
+  unfolding offeredOf startFirst machineOf
+  by-token Spoiled e = let z : _≡_ {A = ℕ} 0 1 = cc in absurd (omega arith)
+  by-token (Nothing x) e = let z : _≡_ {A = ℕ} 0 1 = cc in absurd (omega arith)
+  by-token (Took j x) {k} e =
+      let same : j ≡ k = cc in
+      by-test (ltb (f .placed) (f .tables .tokens)) (λ b. rw (b, same)) (λ b. rw b)
+
+  module _ {a : Offer} (told : a ≡ offeredOf (safeTake (f .tables, mem))) where
+    abbrev Answers : Answer → Type 0
+    Answers r = answerOf r ≡ startFirst memorySource machine (worker .0) (line .0) (safeTake (f .tables, mem)) .answer
+
+    pub would-spoiled : a ≡ Offer.Spoiled → Answers (Answer.Refused Refusal.Spoiled)
+    unfolding answerOf
+    would-spoiled e = by-spoiled (safeTake (f .tables, mem)) (sym told ∙ e)
+
+    pub would-stop : a ≡ Offer.Nothing → Answers (Answer.Stopped (record { line = line; worker = worker }))
+    unfolding answerOf
+    would-stop e = by-nothing (safeTake (f .tables, mem)) (sym told ∙ e)
+
+    module _ {k : ℕ} (e : a ≡ Offer.Token k) where
+      pub would-overfill : f .tables .tokens ≤ f .placed → Answers (Answer.Refused Refusal.Spoiled)
+      unfolding answerOf
+      would-overfill h = let t = by-token (safeTake (f .tables, mem)) (sym told ∙ e) in rw (le-ltb (f .placed) (f .tables .tokens) h) at t
+
+      pub would-take : f .placed < f .tables .tokens →
+          Answers (Answer.Started (record { line = line; pipe = record { 0 = 0 }; token = record { 0 = k }; place = record { 0 = f .placed }; worker = worker }))
+      unfolding answerOf
+      would-take h = let t = by-token (safeTake (f .tables, mem)) (sym told ∙ e) in rw (lt-ltb (f .placed) (f .tables .tokens) h) at t
+
+  -- at pipe 0, and later
+  module _ (slot : Slot) (at : slotAt slots (line .0) ≡ slot) where
+    pub would-first : (r : Answer) → slot .pipe .0 ≡ 0 → answerOf r ≡ startFirst memorySource machine (worker .0) (line .0) (safeTake (f .tables, mem)) .answer →
+        answerOf r ≡ start memorySource machine (worker .0) (line .0) .answer
+    would-first r e h = h ∙ ap (λ c. c .answer) (start-first f counters slots worker line slot at mem e refl)
+
+    pub would-later : (slot .pipe .0 ≡ 0 → ⊥) →
+        answerOf (Answer.Started (record { line = line; pipe = slot .pipe; token = slot .token; place = slot .place; worker = worker })) ≡ start memorySource machine (worker .0) (line .0) .answer
+    unfolding chosenOf
+    would-later n = ap (λ c. c .answer) (start-later f counters slots worker line slot at mem n refl)

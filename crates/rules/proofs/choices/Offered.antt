@@ -2,7 +2,6 @@
 use mathlib.Core.Path.{_≡_, refl, sym, ap, subst, _∙_}
 use mathlib.Core.Bool.{Bool, true, false}
 use Prim.Native.Nat.{ℕ}
-use native.Mathlib.Omega.{arith}
 use borrow.Author.Tests.{eq-eqb, eqb-true}
 use lib.Dec.{eqb}
 use Rattle.vocabulary.specs.declared.Slot.{Slot}
@@ -14,10 +13,10 @@ use Rattle.rules.specs.Sources.{Source, Taken, Spoiled, Nothing, Took}
 use Rattle.rules.specs.RunState.{Machine, slotOf}
 use Rattle.rules.specs.Choices.{Answer, Started, Finished, Stopped, Refused, Chosen, refuse, choose, chooseBy}
 use Rattle.rules.specs.WholeRuns.{Accepted}
-use Rattle.rules.specs.Offers.{isRefused, recordOf, eventOf, named, onlyIf, takeRecord, takeOffered}
+use Rattle.rules.specs.Offers.{isRefused, recordOf, eventOf, named, onlyIf, takeOffered}
 use Rattle.rules.proofs.lists.Tests.{by-test, never, holds, fails, see}
 use Rattle.rules.proofs.choices.Accepting.{accepted-own}
-use Rattle.rules.proofs.choices.Outcomes.{Effect, enterEffect, effect, by-effect, refused-unchanged, accepted-choice}
+use Rattle.rules.proofs.choices.Outcomes.{enterEffect, effect, by-effect, refused-unchanged, accepted-choice}
 
 -- a record agrees with itself in every field, and two that agree are one
 pub same-itself : (r : EventRecord) → sameRecord r r ≡ true
@@ -173,8 +172,8 @@ module _ {X : Type 0} (S : Source X) (m : Machine X) (e : Event) where
   pub taken-unchanged : isRefused (takeOffered S m e .answer) ≡ true → takeOffered S m e .machine ≡ m
   taken-unchanged refused = elim (see (isRefused (chosen .answer))) [
     | holds turned ↦
-      let same = only-refused m (eventRecord e) 19 chosen turned in
-      ap (λ c. c .machine) same ∙ own-unchanged (chosen .answer) refl turned
+        let same = only-refused m (eventRecord e) 19 chosen turned in
+        ap (λ c. c .machine) same ∙ own-unchanged (chosen .answer) refl turned
     | fails ok ↦ elim (see (sameRecord (recordOf (chosen .answer)) (eventRecord e))) [
       | holds same ↦ absurd (never (sym refused ∙ ap (λ c. isRefused (c .answer)) (only-same m (eventRecord e) 19 chosen ok same) ∙ ok))
       | fails other ↦ ap (λ c. c .machine) (only-other m (eventRecord e) 19 chosen ok other)
