@@ -12,6 +12,10 @@ pub mod Opens
 pub mod Unchanged
 -- and what one does is told by its contract, to the last number;
 pub mod OneOutcome
+-- answers that stand for one are one;
+pub mod OneAnswer
+-- so an offer and its taking are the choice;
+pub mod CodeOffers
 -- every session of the code is as the demands say;
 pub mod CodeRuns
 -- its choices do the same under a larger limit;

@@ -6,6 +6,8 @@ pub mod OpenedRun
 pub mod CodeRuns
 -- two calls of `choose` with the same arguments (02, 2.4);
 pub mod OneOutcome
+-- an offer, and the taking of what was offered (02, 2.3);
+pub mod CodeOffers
 -- a session's choices under a larger limit, and two in either order (02, 2.12).
 pub mod MoreWorkers
 pub mod Swapping
