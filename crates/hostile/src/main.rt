@@ -4,6 +4,7 @@ mod compare;
 mod edits;
 mod report;
 mod stored;
+mod takings;
 mod tries;
 
 // Every stored try. (The count of turns is there for the proof that the loop ends.)

@@ -40,11 +40,23 @@ fn say_same(same: bool) {
     }
 }
 
-// `: n same|changed same|changed`, after the name: the number, then state and memory.
-pub fn say(trial: Trial) {
-    io::write_all(STDOUT_FILENO, b": ");
+// `n same|changed same|changed`, after some words: the number, then state and memory.
+pub fn say(words: &[u8], trial: Trial) {
+    io::write_all(STDOUT_FILENO, words);
     io::print_decimal(STDOUT_FILENO, trial.number as u64);
     say_same(trial.state);
     say_same(trial.memory);
+}
+
+// What an offer answers, and whether its taking is the choice.
+pub fn say_offer(number: u16, alike: bool) {
+    io::write_all(STDOUT_FILENO, b"; offer ");
+    io::print_decimal(STDOUT_FILENO, number as u64);
+    if alike {
+        io::write_all(STDOUT_FILENO, b" and its taking");
+    }
+}
+
+pub fn end() {
     io::write_all(STDOUT_FILENO, b"\n");
 }

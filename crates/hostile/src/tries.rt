@@ -2,7 +2,8 @@
 //     c    worker W chooses line N, on the run at opening with these edits
 //     o    the plan is opened with W workers (N says nothing)
 //     e    an empty file is opened with W workers
-// In capitals, C and O, with one number too few lent.
+// In capitals, C and O, with one number too few lent. On the run of each choice its offer is tried too, with the taking of what was
+// offered, and the takings of two events that are handed in whatever was offered (takings.rt).
 ghost use Prim.Native.Nat.{_≤_};
 use crate::compare;
 use crate::edits;
@@ -10,6 +11,7 @@ use crate::report;
 use crate::report::Run;
 use crate::report::Trial;
 use crate::stored;
+use crate::takings;
 use engine::Chosen;
 use opening::Opened;
 use state::State;
@@ -36,7 +38,7 @@ fn opened(file: &[u8]) -> Run {
 }
 
 // How many numbers are lent: all, or one too few.
-fn lent(all: usize, short: bool) -> usize
+pub(crate) fn lent(all: usize, short: bool) -> usize
     ensures { λ r. ⌜ r ≤ all ⌝ }
 {
     if short {
@@ -47,7 +49,7 @@ fn lent(all: usize, short: bool) -> usize
     all
 }
 
-fn choose(state: State, mem: &mut [u16], worker: u16, line: u16, short: bool) -> Chosen {
+pub(crate) fn choose(state: State, mem: &mut [u16], worker: u16, line: u16, short: bool) -> Chosen {
     let count = lent(mem.len(), short);
     engine::choose(state, &mut mem[..count], Worker(worker), Line(line))
 }
@@ -57,7 +59,7 @@ fn open(file: &[u8], workers: u16, mem: &mut [u16], short: bool) -> Opened {
     opening::open(file, workers, &mut mem[..count])
 }
 
-fn chosen_trial(before: State, chosen: Chosen, memory: bool) -> Trial {
+pub(crate) fn chosen_trial(before: State, chosen: Chosen, memory: bool) -> Trial {
     let answer = chosen.answer;
     let state = chosen.state;
     Trial {
@@ -112,6 +114,12 @@ pub fn next(fd: i32, file: &[u8]) -> bool {
     let run = edits::spoiled(fd, opened(file));
     let trial = tried(verb, w, n, run, file);
     stored::print_line(fd);
-    report::say(trial);
+    report::say(b": ", trial);
+    match verb {
+        b'c' => takings::say(run, w, n, false),
+        b'C' => takings::say(run, w, n, true),
+        _ => {}
+    }
+    report::end();
     true
 }
