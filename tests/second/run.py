@@ -1,4 +1,7 @@
-"""A run: opening, choices of a worker and a line with their join counters, events and the end."""
+"""A run: opening, choices of a worker and a line with their join counters, events and the end.
+
+A choice may be split: an offer, which changes nothing, and the taking of an offered event.
+"""
 
 from plan_file import Refused
 from tables import Tables
@@ -90,6 +93,33 @@ class Run:
         if self.stopped:
             self.ended = self.has_ended()
         return event
+
+    def offer(self, worker, line):
+        """What the choice would answer; nothing changes."""
+        number = self.refusal(worker, line)
+        if number:
+            return (REFUSED, number)
+        pipe = self.at[line]
+        if not self.running[line] and pipe == 0:
+            carried = self.tables.would_take()
+            if carried is None:
+                return (STOPPED, line, worker)
+        else:
+            carried = self.carries[line]
+        return (FINISHED if self.running[line] else STARTED, line, pipe, *carried, worker)
+
+    def take(self, event):
+        """The choice that made this event, if that is still what the line would do.
+
+        The choice's own refusals come first, then 19 for an event that differs.
+        """
+        line, worker = event[1], event[-1]
+        offered = self.offer(worker, line)
+        if offered[0] == REFUSED:
+            return offered
+        if offered != event:
+            return (REFUSED, 19)
+        return self.choose(worker, line)
 
     def start(self, worker, line):
         pipe = self.at[line]

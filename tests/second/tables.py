@@ -43,6 +43,17 @@ class Tables:
             for number in due:
                 self.waiters.setdefault(number, []).append(token)
 
+    def would_take(self):
+        """What `take` would give now; nothing changes."""
+        if self.ready:
+            return self.ready[0], self.placed
+        for token in range(self.count, self.tokens):
+            # Count as it is now will do for rule 1: a number from there on is not
+            # yet taken or was deferred by this very taking, so it is due either way.
+            if not any(self.is_due(number) for number in self.record[token]):
+                return token, self.placed
+        return None
+
     def order(self, token):
         """Rule 3."""
         place = self.placed

@@ -774,6 +774,188 @@ class MoreWorkers(unittest.TestCase):
         self.assertEqual(back[1, 2], (STARTED, 2, 0, 2, 1, 1))
 
 
+class OfferThenTake(unittest.TestCase):
+    """Request 2.3, with the workers of 2.14."""
+
+    def whole(self, run):
+        """All that a run holds."""
+        return run.state(), tuple(run.line_of), run.running_lines, run.workers
+
+    def walks(self, seed, many, **sizes):
+        """Random runs, each before one of its choices, refused ones among them."""
+        chance = Chance(seed)
+        for _ in range(many):
+            plan = makers.random_plan(chance, **sizes)
+            workers = chance.pick([1, 2, 3, 32])
+            run = Run(plan, workers)
+            for choice in makers.allowed_list(chance, plan, workers, 120, strays=chance.pick([3, 9])):
+                yield run, choice
+                run.choose(*choice)
+
+    def chosen(self, run, worker, line):
+        """What the single choice would answer, made on a copy."""
+        return copy.deepcopy(run).choose(worker, line)
+
+    def check_take(self, run, event, expected):
+        """A refused taking changes nothing; an accepted one is made on a copy, and is the choice."""
+        before = self.whole(run)
+        taken, chosen = copy.deepcopy(run), copy.deepcopy(run)
+        self.assertEqual(taken.take(event), expected)
+        if expected[0] != REFUSED:
+            self.assertEqual(chosen.choose(event[-1], event[1]), expected)
+        self.assertEqual(self.whole(taken), self.whole(chosen))
+        self.assertEqual(self.whole(run), before)
+
+    def test_would_take(self):
+        seen = Counter()
+        for run, _ in self.walks(3009, 150, pipes=2, lines=4, tokens=14):
+            before = run.tables.state()
+            would = run.tables.would_take()
+            self.assertEqual(run.tables.state(), before)
+            ahead = copy.deepcopy(run.tables)
+            self.assertEqual(ahead.take(), would)
+            # How many were deferred on the way, or whether one came off the queue.
+            seen["ready" if run.tables.ready else min(ahead.count - run.tables.count, 3)] += 1
+        self.assertEqual(set(seen), {"ready", 0, 1, 2, 3})
+        self.assertGreater(min(seen.values()), 50)
+
+    def test_would_take_at_the_limits(self):
+        for plan, would in (
+            (makers.longest_plan(), None),
+            (Plan([True], 1, 4096, makers.full_records()), (4095, 0)),
+            (Plan([True], 1, 4096), (0, 0)),
+            (Plan([True], 1, 0), None),
+        ):
+            tables = Tables(plan)
+            self.assertEqual(tables.would_take(), would)
+            self.assertEqual(tables.state(), Tables(plan).state())
+            self.assertEqual(tables.take(), would)
+
+    def test_offers_change_nothing(self):
+        seen = Counter()
+        for run, _ in self.walks(3010, 20, pipes=3, lines=4, tokens=8):
+            workers = {*range(min(run.workers, 3)), run.workers - 1, run.workers, 65535}
+            before = self.whole(run)
+            for line in (*range(run.lines + 2), 65535):
+                for worker in workers:
+                    event = run.offer(worker, line)
+                    self.assertEqual(event, self.chosen(run, worker, line))
+                    seen[event[1] if event[0] == REFUSED else event[0]] += 1
+            self.assertEqual(self.whole(run), before)
+        self.assertEqual(set(seen), {STARTED, FINISHED, STOPPED, 10, 11, 12, 13, 26})
+
+    def test_offer_and_taking_are_the_choice(self):
+        chance = Chance(3011)
+        seen = Counter()
+        for sizes in ({"pipes": 3, "lines": 5, "tokens": 12}, {"pipes": 16, "lines": 32, "tokens": 60}):
+            for _ in range(250 if sizes["lines"] == 5 else 25):
+                plan = makers.random_plan(chance, **sizes)
+                workers = chance.pick([1, 2, 3, 4, 32])
+                one, other = Run(plan, workers), Run(plan, workers)
+                for worker, line in makers.allowed_list(chance, plan, workers, 900, strays=6):
+                    event = other.offer(worker, line)
+                    taken = event if event[0] == REFUSED else other.take(event)
+                    self.assertEqual((event, taken), (one.choose(worker, line),) * 2)
+                    seen[event[0]] += 1
+                    if event[0] == REFUSED or chance.one_in(8):
+                        self.assertEqual(self.whole(one), self.whole(other))
+                self.assertEqual(self.whole(one), self.whole(other))
+        self.assertEqual(set(seen), {STARTED, FINISHED, STOPPED, REFUSED})
+        self.assertGreater(sum(seen.values()), 20000)
+
+    def changed_by_one(self, event):
+        """The event with one number one up or down; each with that number's index."""
+        for at in range(1, len(event)):
+            for number in (event[at] - 1, event[at] + 1):
+                if number >= 0:
+                    yield at, (*event[:at], number, *event[at + 1:])
+
+    def test_changed_events(self):
+        seen = Counter()
+        for run, choice in self.walks(3012, 30, pipes=3, lines=4, tokens=8):
+            event = run.offer(*choice)
+            if event[0] == REFUSED:
+                continue
+            self.check_take(run, event, event)
+            for at, other in self.changed_by_one(event):
+                line, worker = other[1], other[-1]
+                number = run.refusal(worker, line)
+                # Another idle worker would start or stop the line just as well.
+                own = at == len(event) - 1 and not number and event[0] != FINISHED
+                self.check_take(run, other, other if own else (REFUSED, number or 19))
+                what = "worker" if at == len(event) - 1 else ("line", "pipe", "token", "place")[at - 1]
+                seen[what, "own" if own else number or 19] += 1
+        for what in ("pipe", "token", "place"):
+            self.assertEqual({number for name, number in seen if name == what}, {19})
+        self.assertEqual({number for name, number in seen if name == "line"}, {10, 12, 13, 19, 26})
+        self.assertEqual({number for name, number in seen if name == "worker"}, {13, 26, "own"})
+
+    def test_kinds_swapped(self):
+        seen = Counter()
+        for run, choice in self.walks(3013, 40, pipes=2, lines=3, tokens=5):
+            worker, line = choice
+            event = run.offer(*choice)
+            if event[0] == REFUSED:
+                continue
+            if event[0] == STOPPED:
+                others = [(kind, line, 0, 0, 0, worker) for kind in (STARTED, FINISHED)]
+                # The token and place that come next, if any came.
+                tables = run.tables
+                others.append((STARTED, line, 0, tables.count, tables.placed, worker))
+            else:
+                swapped = FINISHED if event[0] == STARTED else STARTED
+                others = [(swapped, *event[1:]), (STOPPED, line, worker)]
+            for other in others:
+                self.check_take(run, other, (REFUSED, 19))
+                seen[event[0], other[0]] += 1
+        self.assertEqual(len(seen), 6)
+        self.assertGreater(min(seen.values()), 20)
+
+    def test_own_refusals_come_first(self):
+        run = Run(Plan([True, True], 2, 1), 2)
+
+        def check(worker, line, number):
+            """Events that differ in all they can; none is 19 unless the number is."""
+            for kind in (STARTED, FINISHED):
+                self.check_take(run, (kind, line, 9, 65535, 77, worker), (REFUSED, number))
+            if not self.chosen(run, worker, line)[0] == STOPPED:
+                self.check_take(run, (STOPPED, line, worker), (REFUSED, number))
+
+        for worker, line, number in (
+            (2, 2, 10), (65535, 65535, 10), (2, 0, 26), (2, 1, 26), (0, 1, 12), (0, 0, 19),
+        ):
+            check(worker, line, number)
+        run.choose(1, 0)
+        for worker, line, number in ((0, 0, 26), (2, 0, 26), (1, 1, 12), (1, 0, 19)):
+            check(worker, line, number)
+        run.choose(1, 0)
+        run.choose(0, 0)
+        # Line 1 would stop, by an idle worker.
+        for worker, line, number in ((0, 1, 13), (1, 1, 19), (1, 0, 26), (0, 0, 19)):
+            check(worker, line, number)
+        run.choose(0, 0)
+        self.assertEqual(run.take((STOPPED, 1, 1)), (STOPPED, 1, 1))
+        self.assertTrue(run.ended)
+        for worker, line, number in ((0, 2, 10), (2, 0, 26), (0, 0, 11), (1, 1, 11)):
+            check(worker, line, number)
+
+    def test_an_old_offer(self):
+        run = Run(Plan([True, False], 2, 3), 2)
+        first = run.offer(0, 0)
+        self.assertEqual(first, (STARTED, 0, 0, 0, 0, 0))
+        # The other worker was quicker.
+        self.assertEqual(run.take(run.offer(1, 0)), (STARTED, 0, 0, 0, 0, 1))
+        self.check_take(run, first, (REFUSED, 26))
+        run.choose(1, 0)
+        # The line is one pipe on.
+        self.check_take(run, first, (REFUSED, 19))
+        self.check_take(run, run.offer(0, 0), (STARTED, 0, 1, 0, 0, 0))
+        # What others did between is no reason, if it is still what the line would do.
+        still = run.offer(0, 0)
+        run.choose(1, 1)
+        self.check_take(run, still, still)
+
+
 class StoredVectors(unittest.TestCase):
     def test_every_number_comes(self):
         entries = refusal_entries()
