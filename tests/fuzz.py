@@ -1,21 +1,29 @@
 """Compares a built program with the second implementation on random cases.
 
     python3 tests/fuzz.py --program PATH --seconds S --seed N
+    python3 tests/fuzz.py --console PATH --seconds S --seed N
 
-Each case is a plan file and an input in a folder of its own. The first
-difference is written out in hexadecimal and ends the comparison with 1.
+Each case of the scheduler is a plan file and an input in a folder of its own. The
+first difference is written out in hexadecimal and ends the comparison with 1.
 
 In some cases the program runs again: on the choices that it accepted, under a
 larger limit and with neighbours swapped; and on the whole input under a larger
 limit, if all its workers are below W. A long run in which one of these never came
 ends with 1, too.
+
+Each script of the console is a list of commands, and of lines that are none, over
+fresh plan files; its input comes in pieces or as a file. The first difference ends
+the comparison with 1, and its files are left in a folder. So does a long run in
+which a kind of line or answer never came.
 """
 
 import argparse
 import copy
+import shutil
 import subprocess
 import sys
 import tempfile
+import threading
 import time
 from collections import Counter
 from pathlib import Path
@@ -24,8 +32,9 @@ sys.path.insert(0, str(Path(__file__).resolve().parent / "second"))
 
 import makers
 import plan_file
+import scripts
 from chance import Chance
-from plan_file import Plan, Refused, encode
+from plan_file import Refused, encode
 from program import output
 from run import MOST_WORKERS, Run
 
@@ -37,55 +46,9 @@ SWAPPED = "neighbours swapped"
 ALIKE = "lists answered alike"
 KINDS = (REUSED, SWAPPED, ALIKE)
 
-# More cases than these try each kind; if not, the fault is here.
+# More cases than these try each kind, and so do more scripts; if not, the fault is here.
 ENOUGH_CASES = 1000
-
-
-def random_plan(chance):
-    """A valid plan and the most choices that make sense for it."""
-    manner = chance.below(20)
-    if manner < 9:
-        return makers.random_plan(chance), 300
-    if manner < 13:
-        return makers.random_plan(chance, pipes=6, lines=8, tokens=30), 800
-    if manner < 15:
-        return makers.random_plan(chance, pipes=1, lines=3, tokens=14), 200
-    if manner < 16:
-        return makers.random_plan(chance, pipes=3, lines=1, tokens=14), 200
-    if manner < 19:
-        return makers.random_plan(chance, pipes=16, lines=32, tokens=60), 3000
-    return limit_plan(chance), chance.pick([200, 5000, 60000, 140000])
-
-
-def limit_plan(chance):
-    """A plan where some or all figures are at their limits."""
-    tokens = 4096
-    pipes = makers.random_pipes(chance, chance.pick([1, 2, 16, 16]))
-    lines = chance.pick([1, 2, 32, 32])
-    manner = chance.below(8)
-    if manner == 0:
-        records = []
-    elif manner == 1:
-        records = makers.third_records(tokens)
-    elif manner == 2:
-        records = makers.full_records(tokens)
-    elif manner == 3:
-        records = makers.sixteen_records(chance, tokens, spread=chance.pick([16, 100, 4000]))
-    elif manner == 4:
-        records = makers.both_ways_records(chance, tokens)
-    elif manner == 5:
-        records = makers.longest_plan().records
-    elif manner == 6:
-        return makers.plan_with_total(chance.between(8190, 8194), tokens, len(pipes), lines)
-    else:  # some numbers never enter, some cycles
-        records = []
-        for token in sorted(chance.some(range(tokens), 1000)):
-            numbers = {chance.below(tokens + 3) for _ in range(chance.between(1, 8))} - {token}
-            if chance.one_in(2):
-                numbers = {number for number in numbers if number > token}
-            if numbers:
-                records.append((token, sorted(numbers)))
-    return Plan(pipes, lines, tokens, records)
+ENOUGH_SCRIPTS = 500
 
 
 def random_workers(chance):
@@ -160,7 +123,7 @@ def random_case(chance):
     if chance.one_in(200):
         return None, bytes(chance.below(3) for _ in range(chance.below(4)))
     try:
-        plan, most = random_plan(chance)
+        plan, most = makers.any_plan(chance)
         data = encode(plan)
         if chance.below(10) < 3:
             data = makers.damaged(chance, data)
@@ -358,22 +321,123 @@ def compare(wanted, folder, figures):
     return True
 
 
+def write_pieces(pipe, parts):
+    """Each piece by itself; some are given time to be read as such."""
+    try:
+        for part, pause in parts:
+            while part:
+                part = part[pipe.write(part):]
+            if pause:
+                time.sleep(0.0003)
+        pipe.close()
+    except BrokenPipeError:
+        pass  # it has quit
+
+
+def console_answer(console, folder, stdin, parts):
+    """What the console at this path writes, and why it gave nothing if so.
+
+    The input comes in these parts, or as a file if there are none.
+    """
+    pipe = subprocess.PIPE
+    process = subprocess.Popen(
+        [console], cwd=folder, stdin=pipe if parts else stdin, stdout=pipe, bufsize=0
+    )
+    hanging = threading.Timer(LONGEST_ANSWER, process.kill)
+    hanging.start()
+    if parts:
+        # Beside the reading, as neither side may wait for the other.
+        writer = threading.Thread(target=write_pieces, args=(process.stdin, parts))
+        writer.start()
+    text = process.stdout.read()
+    code = process.wait()
+    hanging.cancel()
+    process.stdout.close()
+    if parts:
+        writer.join()
+        process.stdin.close()
+    return text, f"exit code {code}" if code else ""
+
+
+def script_differs(wanted, chance, number, script, folder):
+    """Whether the console answers a script otherwise; if so, the files are kept."""
+    data, expected = script.input(), script.expected()
+    parts = []
+    if not chance.one_in(4):
+        parts = [(part, chance.one_in(4)) for part in scripts.pieces(chance, data)]
+    given = Path(folder) / "input"
+    given.write_bytes(data)
+    with given.open("rb") as stdin:
+        there, why = console_answer(wanted.console, folder, stdin, parts)
+    if there == expected and not why:
+        return False
+    kept = Path(tempfile.mkdtemp(prefix="console-")) / "script"
+    shutil.copytree(folder, kept)
+    (kept / "expected").write_bytes(expected)
+    (kept / "got").write_bytes(there)
+    print(f"script {number} of seed {wanted.seed} differs {why}".rstrip() + f"; its files are in {kept}")
+    ours, theirs = expected.split(b"\n"), there.split(b"\n")
+    at = next((i for i, (one, other) in enumerate(zip(ours, theirs)) if one != other), min(len(ours), len(theirs)))
+    line = script.lines[at] if at < len(script.lines) else b""
+    print(f"answer {at + 1}, to {line[:80]!r}: expected {ours[at:at + 1]}, got {theirs[at:at + 1]}")
+    return True
+
+
+def compare_console(wanted, folder, figures):
+    """Scripts until the time is over; False as soon as one differs."""
+    chance = Chance(wanted.seed)
+    until = time.monotonic() + wanted.seconds
+    while time.monotonic() < until:
+        with tempfile.TemporaryDirectory(dir=folder) as room:
+            script = scripts.Script(chance, room).make()
+            figures["scripts"] += 1
+            if script_differs(wanted, chance, figures["scripts"], script, room):
+                return False
+        figures.update(script.figures)
+    return True
+
+
+def console_summary(figures):
+    return (
+        f"scripts {figures['scripts']}; lines {figures['lines']}; "
+        + "; ".join(f"{kind}: {figures[kind]}" for kind in scripts.KINDS)
+    )
+
+
+def console_never_tried(figures):
+    if figures["scripts"] <= ENOUGH_SCRIPTS:
+        return []
+    return [kind for kind in scripts.KINDS if not figures[kind]]
+
+
+def run(wanted, compare_all, summary_of, missing_of):
+    """One comparison; whether all was the same and tried."""
+    figures = Counter()
+    with tempfile.TemporaryDirectory() as folder:
+        same = compare_all(wanted, folder, figures)
+    print(summary_of(figures))
+    missing = missing_of(figures)
+    if missing:
+        print("never tried: " + ", ".join(missing))
+    return same and not missing
+
+
 def main():
     parser = argparse.ArgumentParser(description=__doc__.split("\n")[0])
-    parser.add_argument("--program", required=True)
+    parser.add_argument("--program", type=lambda path: str(Path(path).resolve()))
+    parser.add_argument("--console", type=lambda path: str(Path(path).resolve()))
     parser.add_argument("--seconds", type=float, default=10)
     parser.add_argument("--seed", type=int, default=1)
     wanted = parser.parse_args()
-    wanted.program = str(Path(wanted.program).resolve())
+    if wanted.program is None and wanted.console is None:
+        parser.error("--program or --console")
 
-    figures = Counter()
-    with tempfile.TemporaryDirectory() as folder:
-        same = compare(wanted, folder, figures)
-    print(summary(figures))
-    missing = never_tried(figures)
-    if missing:
-        print("never tried: " + ", ".join(missing))
-    return 0 if same and not missing else 1
+    well = True
+    if wanted.program is not None:
+        well = run(wanted, compare, summary, never_tried)
+    if well and wanted.console is not None:
+        well = run(wanted, compare_console, console_summary, console_never_tried)
+    return 0 if well else 1
 
 
 if __name__ == "__main__":

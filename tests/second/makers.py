@@ -111,6 +111,53 @@ def plan_with_total(total, tokens=4096, pipes=1, lines=1):
     return Plan([True] * pipes, lines, tokens, records)
 
 
+def any_plan(chance):
+    """A plan of any size, nearly always a valid one, and the most choices that make sense for it."""
+    manner = chance.below(20)
+    if manner < 9:
+        return random_plan(chance), 300
+    if manner < 13:
+        return random_plan(chance, pipes=6, lines=8, tokens=30), 800
+    if manner < 15:
+        return random_plan(chance, pipes=1, lines=3, tokens=14), 200
+    if manner < 16:
+        return random_plan(chance, pipes=3, lines=1, tokens=14), 200
+    if manner < 19:
+        return random_plan(chance, pipes=16, lines=32, tokens=60), 3000
+    return limit_plan(chance), chance.pick([200, 5000, 60000, 140000])
+
+
+def limit_plan(chance):
+    """A plan where some or all figures are at their limits."""
+    tokens = 4096
+    pipes = random_pipes(chance, chance.pick([1, 2, 16, 16]))
+    lines = chance.pick([1, 2, 32, 32])
+    manner = chance.below(8)
+    if manner == 0:
+        records = []
+    elif manner == 1:
+        records = third_records(tokens)
+    elif manner == 2:
+        records = full_records(tokens)
+    elif manner == 3:
+        records = sixteen_records(chance, tokens, spread=chance.pick([16, 100, 4000]))
+    elif manner == 4:
+        records = both_ways_records(chance, tokens)
+    elif manner == 5:
+        records = longest_plan().records
+    elif manner == 6:
+        return plan_with_total(chance.between(8190, 8194), tokens, len(pipes), lines)
+    else:  # some numbers never enter, some cycles
+        records = []
+        for token in sorted(chance.some(range(tokens), 1000)):
+            numbers = {chance.below(tokens + 3) for _ in range(chance.between(1, 8))} - {token}
+            if chance.one_in(2):
+                numbers = {number for number in numbers if number > token}
+            if numbers:
+                records.append((token, sorted(numbers)))
+    return Plan(pipes, lines, tokens, records)
+
+
 # Files that need not be valid.
 
 def raw_record(token, numbers, count=None):

@@ -1,0 +1,320 @@
+"""The console: its stored run, and a talk with the built program as a screen has it.
+
+    python3 tests/console.py --write | --check
+    python3 tests/console.py --program PATH [--seed N]
+
+--write makes the stored run of crates/console anew with the second implementation, --check
+fails if it differs. --program talks to the program, each answer awaited before the next
+command is sent, and then hands it files of many commands, which it must answer quickly.
+"""
+
+import argparse
+import select
+import subprocess
+import sys
+import tempfile
+import time
+from pathlib import Path
+
+HERE = Path(__file__).resolve().parent
+ROOT = HERE.parent
+CRATE = ROOT / "crates" / "console"
+sys.path.insert(0, str(HERE / "second"))
+
+import makers
+from cases import CASES
+from chance import Chance
+from console import Console, answers_to, console_output, lines_in
+from makers import raw_file, raw_record
+from plan_file import Plan, encode
+from program import line_of
+from run import Run
+from scripts import ANSWERS, Script
+
+# A console that does not answer fails, and so does one with fewer commands a second.
+LONGEST_ANSWER = 20
+PACE = 200_000
+# How often a run of 131,073 choices is timed in a row, and how many scripts are talked through.
+TIMES = 10
+TALKS = 60
+
+
+# The stored run.
+
+def plans():
+    """Plan files by name: some plans, the longest file and one byte more, and one for each refusal."""
+    files = {
+        "figure.plan": encode(CASES["b"].plan(pipes=[True] * 3, lines=3)),
+        "two words.plan": encode(CASES["h"].plan(pipes=[True, False], lines=2)),
+        "none.plan": encode(CASES["c"].plan()),
+        "longest.plan": encode(makers.longest_plan()),
+        "refused-1.plan": encode(makers.longest_plan()) + b"\0",
+        "refused-3.plan": raw_file(edition=2),
+        "refused-4.plan": raw_file(pipes=b"SX"),
+        "refused-5.plan": raw_file(raw_record(1, [3, 2]), r=1),
+        "refused-6.plan": raw_file(raw_record(1, [1]), r=1),
+        "refused-7.plan": encode(makers.plan_with_total(8193)),
+        "empty.plan": b"",
+    }
+    files["refused-2.plan"] = files["figure.plan"][1:]
+    return files
+
+
+def on_zeros():
+    """What is asked of a state of zeros."""
+    return ["ended", "choose 0 0", "offer 0 0", "take X 0 0", "take S 0 0 0 0 0", "choose 65535 65535"]
+
+
+def refused_lines():
+    """Plans and openings that are refused, and what the state is then."""
+    for number in range(1, 8):
+        yield from (f"plan refused-{number}.plan", "open 1", "open 33", *on_zeros()[:4])
+    yield from ("plan empty.plan", "plan missing.plan", "plan figure.plan ", "plan  figure.plan", "open 0")
+    yield from ("plan figure.plan", "open 1", "choose 0 0", "open 0", *on_zeros(), "open 33", "open 65535")
+    # A run goes on whatever plan is kept; the next opening goes by that.
+    yield from ("open 1", "choose 0 0", "plan refused-5.plan", "choose 0 0", "open 1", "choose 0 0")
+
+
+def figure_lines():
+    """Offers and takings in a hall of two."""
+    yield from ("plan figure.plan", *on_zeros(), "open 2", "ended", "offer 0 0", "offer 0 0", "offer 1 0")
+    # Each field another, then what was offered.
+    yield from ("take F 0 0 0 0 0", "take X 0 0", "take S 1 0 0 0 0", "take S 3 0 0 0 0", "take S 0 1 0 0 0")
+    yield from ("take S 0 0 1 0 0", "take S 0 0 0 1 0", "take S 0 0 0 0 2", "take S 0 0 65535 65535 0", "take S 0 0 0 0 0")
+    yield from ("offer 0 0", "offer 1 0", "offer 0 1", "take S 0 0 0 0 0", "take X 0 0", "take F 0 0 0 0 1", "take F 0 0 0 0 0")
+    # An old offer, of the other worker, of a line that has gone on.
+    yield from ("take F 0 0 0 0 0", "choose 0 0", "choose 1 1", "offer 0 1", "offer 1 1", "choose 0 2", "choose 1 2")
+    yield from ("take F 0 1 0 0 0", "offer 1 0", "choose 1 0", "take S 0 2 0 0 1", "offer 0 0", "take S 0 2 0 0 0", "choose 1 1")
+    yield from ("offer 0 2", "take S 2 0 2 2 0", "offer 1 2", "take S 2 0 2 2 1", "take F 0 2 0 0 0")
+    # 10 before 26, 26 before all else.
+    yield from ("choose 2 0", "choose 2 3", "choose 0 3", "choose 65535 0", "choose 0 65535", "offer 2 0", "offer 0 3")
+    yield from ("take F 3 0 0 0 2", "take F 0 0 0 0 2", "take X 3 0", "take X 0 2", "ended")
+    # One worker to the end, and past it.
+    yield from ("open 0001", "ended")
+    for _, line in makers.one_worker_list(CASES["b"].plan(pipes=[True] * 3, lines=3)):
+        yield f"choose 0 {line}"
+    yield from ("ended", "choose 0 0", "choose 0 3", "choose 1 0", "offer 0 0", "offer 0 3", "take X 2 0", "take S 0 0 0 0 1")
+
+
+def small_lines():
+    """A run by offers and takings to its end, stops, and the longest plan."""
+    plan = CASES["h"].plan(pipes=[True, False], lines=2)
+    yield from ("plan two words.plan", "open 1")
+    run = Run(plan, 1)
+    for choice in makers.one_worker_list(plan):
+        yield from ("offer %d %d" % choice, "take " + line_of(run.choose(*choice)))
+    yield "ended"
+    # Offered to one worker, taken by another: it is what the line would do for that one.
+    yield from ("open 2", "offer 0 0", "take S 0 0 2 0 1", "take F 0 0 2 0 0", "take F 0 0 2 0 1")
+    yield from ("plan none.plan", "open 32", "offer 31 0", "take S 0 0 0 0 31", "take X 0 30", "take X 0 30", "ended")
+    yield from ("open 32", "take X 1 7", "choose 7 0", "ended")
+    yield from ("plan longest.plan", "open 1", "offer 0 0", "choose 0 0", "ended")
+
+
+def other_lines():
+    """Lines that are no command, and some that just are."""
+    yield from ("plan figure.plan", "open 1", "choose 0 0")
+    yield from ("", " ", "end", "Ended", "ended ", " ended", "ended 0", "quit ", " quit", "quit now", "figures", "draw 1")
+    yield from ("plan", "plan ", "open", "open ", "open 1 ", "open  1", " open 1", "open 1 1", "open +1", "open -1", "open 1a")
+    yield from ("open\t1", "open 65536", "open 00065536", "open 4294967297", "open 18446744073709551617", "open 1 0 3 cells")
+    yield from ("choose", "choose ", "choose 0", "choose 0 ", "choose  0", "choose 0  0", "choose 0 0 ", "choose 0 0 0")
+    yield from ("choose 65536 0", "choose 0 65536", "choose a 0", "choose 0 a", "Choose 0 0", "choose 0 " + "9" * 30)
+    yield from ("offer", "offer 0", "offer 0 ", "offer 0 0 0", "offer a 0", "offer 0 a", "offer 65536 0", "offer 00 00000")
+    yield from ("take", "take ", "take S", "take X", "take S ", "take X 0", "take X 0 ", "take X 0 0 ", "take X 0 0 0")
+    yield from ("take x 0 0", "take R 14", "take  X 0 0", "take S 0 0 0 0", "take S 0 0 0 0 ", "take S 0 0 0 0 0 0")
+    yield from ("take F 0 0 0 0", "take F 0 0 0 0 65536", "take F 65536 0 0 0 0", "take SF 0 0 0 0 0", "take SX 0 0")
+    # None of these has changed anything.
+    yield from ("take F 0 0 0 0 0", "offer 0 0" + "0" * 8182, "choose 0 " + "0" * 8182, "choose 0 " + "0" * 8183)
+    yield from ("plan " + "a" * 4095, "plan " + "a" * 4096, "a" * 8191, "a" * 8192, "a" * 8191 + "ended", "a" * 65536 + "quit")
+    # The last line lacks its newline, and nobody hears it.
+    yield from ("ended", "quit", "ended")
+
+
+def stored_input():
+    """Every command, every kind of answer, and lines that are no command."""
+    lines = [*on_zeros(), "open 1", *refused_lines(), *figure_lines(), *small_lines(), *other_lines()]
+    return "\n".join(lines).encode("ascii")
+
+
+def made():
+    """The files of the stored run by their paths."""
+    stdin = stored_input()
+    with tempfile.TemporaryDirectory() as folder:
+        put_files(folder, plans())
+        stdout = console_output(folder, stdin)
+        missing = kinds_missing(folder, stdin)
+    if missing:
+        raise SystemExit("console: the stored run has no " + ", ".join(missing))
+    data = {CRATE / "data" / name: content for name, content in plans().items()}
+    return {CRATE / "stdin": stdin, CRATE / "stdout": stdout, **data}
+
+
+def kinds_missing(folder, stdin):
+    """The answers to a command that the stored run lacks."""
+    lines = lines_in(stdin)
+    come = set()
+    for line, answer in zip(lines, answers_to(folder, lines)):
+        kind = answer.split()[1] if answer[0] == "R" else answer[0]
+        come.add(line.decode("ascii").partition(" ")[0] + " " + kind)
+    wanted = [f"{word} {kind}" for word, kinds in ANSWERS.items() for kind in kinds]
+    return [kind for kind in wanted if kind not in come]
+
+
+def put_files(folder, files):
+    for name, content in files.items():
+        (Path(folder) / name).write_bytes(content)
+
+
+def write():
+    (CRATE / "data").mkdir(parents=True, exist_ok=True)
+    for path, content in made().items():
+        path.write_bytes(content)
+
+
+def check():
+    wanted = made()
+    for path, content in wanted.items():
+        if not path.exists() or path.read_bytes() != content:
+            raise SystemExit(f"{path.relative_to(ROOT)} is not what the second implementation makes")
+    there = {path for path in (CRATE / "data").iterdir()}
+    if not there <= set(wanted):
+        raise SystemExit(f"{min(there - set(wanted)).relative_to(ROOT)} is no file of the stored run")
+    print("console: %d files are as the second implementation makes them" % len(wanted))
+
+
+# Talking to the program.
+
+class Talk:
+    """The program at the other end of two pipes."""
+
+    def __init__(self, program, folder):
+        pipe = subprocess.PIPE
+        self.process = subprocess.Popen([program], cwd=folder, stdin=pipe, stdout=pipe, bufsize=0)
+        self.rest = b""
+
+    def say(self, data):
+        while data:
+            data = data[self.process.stdin.write(data):]
+
+    def hear(self):
+        """The next line without its newline; None if none comes."""
+        while b"\n" not in self.rest:
+            ready, _, _ = select.select([self.process.stdout], [], [], LONGEST_ANSWER)
+            more = self.process.stdout.read(65536) if ready else b""
+            if not more:
+                return None
+            self.rest += more
+        line, _, self.rest = self.rest.partition(b"\n")
+        return line
+
+    def end(self, close=True):
+        """What comes after the last answer; the input is closed first, or left open."""
+        if close:
+            self.process.stdin.close()
+        code = self.process.wait(LONGEST_ANSWER)
+        left = self.rest + self.process.stdout.read()
+        self.process.stdin.close()
+        self.process.stdout.close()
+        if code != 0:
+            raise SystemExit(f"console: exit code {code}")
+        return left
+
+
+def talk(program, folder, lines, close=True):
+    """Each command is answered before the next one is sent; how many there were."""
+    second = Console(folder)
+    there = Talk(program, folder)
+    try:
+        many = 0
+        for many, line in enumerate(lines, 1):
+            expected = second.answer(line)
+            there.say(line + b"\n")
+            if second.over:
+                break
+            heard = there.hear()
+            if heard != expected.encode("ascii"):
+                raise SystemExit(f"console: {line[:80]!r} was answered by {heard!r}, not {expected!r}")
+            if there.rest:
+                raise SystemExit(f"console: {line[:80]!r} was answered by more than a line")
+        if there.end(close) != b"":
+            raise SystemExit("console: more was written than answered")
+    finally:
+        there.process.kill()
+    return many
+
+
+def talks(program, seed):
+    """The stored run, and random scripts."""
+    chance = Chance(seed)
+    many = 0
+    begun = time.monotonic()
+    with tempfile.TemporaryDirectory() as folder:
+        put_files(folder, plans())
+        # `quit` ends it with its input open.
+        many += talk(program, folder, lines_in(stored_input()), close=False)
+    for _ in range(TALKS):
+        with tempfile.TemporaryDirectory() as folder:
+            many += talk(program, folder, Script(chance, folder).make(quits=False).lines)
+    took = time.monotonic() - begun
+    print(f"console: each of {many} answers came before the next command was sent, {many / took:.0f} a second with the second implementation's")
+
+
+# Many commands in one file.
+
+def full_run(offers):
+    """A plan with 131,073 choices and the one-worker order of it, as choices or as offers and takings."""
+    plan = Plan(makers.big_pipes(), 32, 4096)
+    lines = ["plan full.plan", "open 1"]
+    run = Run(plan, 1)
+    for worker, line in makers.one_worker_list(plan):
+        if not offers:
+            lines.append(f"choose {worker} {line}")
+            continue
+        event = run.choose(worker, line)
+        lines += [f"offer {worker} {line}", "take " + line_of(event)]
+    return encode(plan), "".join(line + "\n" for line in [*lines, "ended"]).encode("ascii")
+
+
+def in_one_file(program, what, offers, times):
+    """Compares a long input, and its pace with what is wanted."""
+    plan, data = full_run(offers)
+    with tempfile.TemporaryDirectory() as folder:
+        put_files(folder, {"full.plan": plan, "given": data * times})
+        with open(Path(folder) / "given", "rb") as stdin, open(Path(folder) / "written", "wb") as stdout:
+            begun = time.monotonic()
+            subprocess.run([program], cwd=folder, stdin=stdin, stdout=stdout, timeout=LONGEST_ANSWER * times, check=True)
+            took = time.monotonic() - begun
+        if (Path(folder) / "written").read_bytes() != console_output(folder, data) * times:
+            raise SystemExit(f"console: {what} in one file are answered otherwise than by the second implementation")
+    many = times * data.count(b"\n")
+    print(f"console: {many} commands in one file, {what}, {many / took:.0f} a second")
+    if many / took < PACE:
+        raise SystemExit(f"console: {PACE} a second are wanted")
+
+
+def run(program, seed):
+    program = str(Path(program).resolve())
+    talks(program, seed)
+    in_one_file(program, "choices", False, TIMES)
+    in_one_file(program, "offers and takings", True, TIMES // 2)
+
+
+def main():
+    parser = argparse.ArgumentParser(description=__doc__.split("\n")[0])
+    parser.add_argument("--write", action="store_true")
+    parser.add_argument("--check", action="store_true")
+    parser.add_argument("--program")
+    parser.add_argument("--seed", type=int, default=1)
+    wanted = parser.parse_args()
+    if wanted.write:
+        write()
+    elif wanted.check:
+        check()
+    elif wanted.program:
+        run(wanted.program, wanted.seed)
+    else:
+        parser.error("--write, --check or --program")
+
+
+if __name__ == "__main__":
+    main()

@@ -1,0 +1,384 @@
+"""Random input for the console: its plan files, its lines, and the pieces in which it comes.
+
+The second implementation hears each line as it is made, so that the next can go by
+its answer: takings of what was offered, say.
+"""
+
+import os
+from collections import Counter
+
+import makers
+from console import LARGEST, LONGEST_LINE, LONGEST_PATH, Console, event_in
+from makers import raw_file, raw_record
+from plan_file import LONGEST_FILE, encode
+from run import FINISHED, REFUSED, STARTED, STOPPED
+
+# Names that a path must be read to the byte for; the last one is as long as can be.
+NAMES = [
+    b"a.plan", b"two words.plan", b" a space first", b"a space last ", b"bl\xc3\xa5", b"\xff\xfe",
+    b"0", b"quit", b"n" * 255,
+]
+NOT_THERE = [b"missing", b"a.pla", b"A.plan", b"a.plan\0", b"\0", b"n" * 256, b".", b"/", b"no/a.plan", b"/dev/null"]
+
+BLOCK = 65536
+LENGTHS = (8190, 8191, 8192, 8193, 70000, 140000)
+
+OTHER_WORDS = [
+    b"end", b"Ended", b"endedd", b"QUIT", b"qui", b"chose 0 0", b"choose", b"offer", b"take", b"open", b"plan",
+    b"?", b"R 14", b"E", b"X 0 0", b"S 0 0 0 0 0", b"draw 1", b"figures", b"sum", b"due 0", b"chain 0",
+    b"mark 1 a.plan", b"write S 1 1 a b", b"up a b", b"down a b", b"open 1 0 3 a.plan",
+]
+NO_NUMBERS = [
+    b"", b"+1", b"-1", b"-0", b"a", b"1a", b"0x1", b"1.0", b"1\0", b"\0", b"\xd9\xa1", b"\xb2",
+    # What a number that wraps would take for 0 or 1.
+    b"65536", b"65537", b"0065536", b"131072", b"4294967296", b"18446744073709551617",
+    b"99999", b"100000", b"9" * 40, b"1" + b"0" * 300,
+]
+
+# What a line was made to try, beside its command and answer.
+FIELDS = ("line", "pipe", "token", "place", "worker")
+OLD = "an old offer"
+PADDED = "a number with leading zeros"
+KEPT = "a plan in the middle of a run"
+BLOCK_END = "a block's end in or at a command"
+QUIT = "quit in the middle"
+OPEN_END = "a last line without its newline"
+
+ANSWERS = {
+    "plan": ("P", *range(1, 8)),
+    "open": ("A", *range(1, 9)),
+    "choose": ("S", "F", "X", 10, 11, 12, 13, 14, 26),
+    "offer": ("S", "F", "X", 10, 11, 12, 13, 14, 26),
+    "take": ("S", "F", "X", 10, 11, 12, 13, 14, 19, 26),
+    "ended": ("E", "O"),
+}
+# What a long run of scripts must have tried.
+KINDS = (
+    *(f"{word} {kind}" for word, kinds in ANSWERS.items() for kind in kinds),
+    "?", "an empty line", f"a line above {LONGEST_LINE} bytes", f"a command of {LONGEST_LINE} bytes",
+    f"a path of {LONGEST_PATH} bytes that is there", f"a path above {LONGEST_PATH} bytes",
+    *(f"a taking with another {field}" for field in FIELDS),
+    *(f"{one} taken as {two}" for one in "SFX" for two in "SFX" if one != two),
+    f"{OLD} accepted", f"{OLD} refused", f"{OLD} R 19",
+    PADDED, KEPT, BLOCK_END, QUIT, OPEN_END,
+)
+
+
+def plan_files(chance):
+    """Fresh plan files by name: valid ones, damaged ones, now and then one at or past a limit."""
+    contents = [encode(makers.any_plan(chance)[0]) for _ in range(chance.between(1, 3))]
+    for _ in range(chance.between(0, 2)):
+        contents.append(makers.damaged(chance, encode(makers.random_plan(chance))))
+    if chance.one_in(12):
+        longest = encode(makers.longest_plan())
+        contents.append(longest + bytes(chance.pick([0, 1, 1, 2, LONGEST_FILE, 70000])))
+    if chance.one_in(12):
+        contents.append(encode(makers.plan_with_total(chance.pick([8192, 8193, 8193, 8193]))))
+    if chance.one_in(3):
+        contents.append(chance.pick([
+            b"", raw_file(edition=2), raw_file(lines=33), raw_file(tokens=4097), raw_file(pipes=b"S" * 17),
+            raw_file(pipes=b"P"), raw_file(pipes=b"Ss"), raw_file(raw_record(1, [1]), r=1),
+        ]))
+    return dict(zip(chance.shuffled(NAMES), contents))
+
+
+class Script:
+    """The lines of one input with their answers; `figures` counts what they tried."""
+
+    def __init__(self, chance, folder):
+        self.chance = chance
+        self.folder = os.fsencode(folder)
+        self.files = plan_files(chance)
+        for name, content in self.files.items():
+            with open(os.path.join(self.folder, name), "wb") as file:
+                file.write(content)
+        self.console = Console(folder)
+        self.lines, self.answers, self.figures = [], [], Counter()
+        # How many bytes the lines have, with their newlines.
+        self.size = 0
+        # Events that were offered.
+        self.old = []
+        # How often a choice is by any worker, and whether starts come before finishes.
+        self.others = chance.between(2, 8)
+        self.finish_late = chance.one_in(2)
+
+    def say(self, line, *tried):
+        """The answer to one more line."""
+        if self.console.run is not None and self.chance.one_in(400):
+            self.fill_block(line)
+        return self.say_at_once(line, *tried)
+
+    def say_at_once(self, line, *tried):
+        before = self.console.run
+        answer = self.console.answer(line)
+        self.lines.append(line)
+        self.size += len(line) + 1
+        self.answers.append(answer)
+        self.figures.update(tried)
+        self.figures["lines"] += 1
+        if answer == "?":
+            self.figures["?"] += 1
+            self.figures["an empty line"] += not line
+            self.figures[f"a line above {LONGEST_LINE} bytes"] += len(line) > LONGEST_LINE
+            return answer
+        word = line.split(b" ")[0].decode("ascii")
+        kind = answer.split(" ")[1] if answer[0] == REFUSED else answer[0]
+        self.figures[f"{word} {kind}"] += 1
+        self.figures[f"a command of {LONGEST_LINE} bytes"] += len(line) == LONGEST_LINE
+        self.figures[KEPT] += word == "plan" and before is not None and not before.ended
+        return answer
+
+    def fill_block(self, line):
+        """Lines before this one that put a block's end in it, just before it or just after."""
+        chance = self.chance
+        ahead = chance.pick([0, 1, len(line), len(line) + 1, chance.between(0, len(line) + 1)])
+        room = -(self.size + ahead) % BLOCK
+        # Mostly one line, long or not; else many.
+        most = chance.pick([BLOCK, BLOCK, BLOCK, 9000, 700, 6])
+        while room:
+            size = min(room, most)
+            self.say_at_once(b"ended" if size == 6 else (b"q" + b"quit" * size)[:size - 1])
+            room -= size
+        assert (self.size + ahead) % BLOCK == 0
+        self.figures[BLOCK_END] += 1
+
+    # Commands.
+
+    def spelled(self, number):
+        if not self.chance.one_in(30):
+            return b"%d" % number
+        self.figures[PADDED] += 1
+        return b"0" * self.chance.pick([1, 2, 4, 5, 16, 20, 100]) + b"%d" % number
+
+    def numbered(self, word, *numbers):
+        return b" ".join([word, *(self.spelled(number) for number in numbers)])
+
+    def take_line(self, event):
+        return self.numbered(b"take " + event[0].encode("ascii"), *event[1:])
+
+    def some_choice(self):
+        """A worker and a line, mostly such as may be chosen."""
+        chance, run = self.chance, self.console.run
+        if run is None or chance.one_in(30):
+            return tuple(chance.pick([0, 0, 1, 2, 31, 32, 255, 256, 65535, chance.below(65536)]) for _ in range(2))
+        if chance.one_in(15):
+            worker = chance.pick([run.workers, run.workers + 1, run.workers - 1, chance.below(256)])
+            line = chance.pick([run.lines, run.lines - 1, 0, run.lines + 1])
+            return worker, line
+        lines = [line for line in range(run.lines) if run.refusal(0, line) != 12]
+        if self.finish_late and chance.below(3):
+            lines = [line for line in lines if not run.running[line]] or lines
+        line = chance.below(run.lines) if chance.one_in(12) else chance.pick(lines)
+        worker = run.practice_worker(line)
+        if chance.one_in(self.others):
+            worker = chance.pick([by for by in run.worker_of if by is not None] + [chance.below(run.workers)])
+        return worker, line
+
+    def some_event(self, worker, line):
+        """An event of this worker and line, right or not."""
+        chance = self.chance
+        if chance.one_in(3):
+            return STOPPED, line, worker
+        pipe, token, place = (chance.pick([0, 0, 1, 2, chance.below(65536)]) for _ in range(3))
+        return chance.pick([STARTED, FINISHED]), line, pipe, token, place, worker
+
+    def command(self):
+        """The words of a command with numbers."""
+        chance = self.chance
+        worker, line = self.some_choice()
+        manner = chance.below(4)
+        if manner == 0:
+            return [b"open", b"%d" % chance.pick([1, 2, 32, 33])]
+        if manner == 1:
+            return self.take_line(self.some_event(worker, line)).split(b" ")
+        return [chance.pick([b"choose", b"offer"]), b"%d" % worker, b"%d" % line]
+
+    def plan(self):
+        """A plan, mostly of a file that is there, once in a while by a path at the limit."""
+        chance = self.chance
+        name = chance.pick(sorted(self.files))
+        if chance.one_in(8):
+            name = chance.pick(NOT_THERE + NAMES)
+        elif chance.one_in(12):
+            name = os.path.join(self.folder, name)
+        elif chance.one_in(8):
+            size = chance.pick([4094, 4095, 4095, 4096, 4097])
+            before = size - len(name)
+            tried = f"a path of {size} bytes that is there" if size <= LONGEST_PATH else f"a path above {LONGEST_PATH} bytes"
+            return self.say(b"plan " + b"./" * (before // 2) + b"/" * (before % 2) + name, tried)
+        return self.say(b"plan " + name)
+
+    def open(self):
+        chance = self.chance
+        good = [1, 1, 2, 2, 3, 4, 31, 32, chance.between(1, 32)]
+        self.old.clear()
+        return self.say(self.numbered(b"open", chance.pick([0, 33, 34, 256, 257, 65535] if chance.one_in(8) else good)))
+
+    # Takings.
+
+    def offer(self, worker, line):
+        """The event of an offer, or None."""
+        answer = self.say(self.numbered(b"offer", worker, line))
+        if answer[0] == REFUSED:
+            return None
+        event = event_in(answer.encode("ascii").split(b" "))
+        self.old = self.old[-12:] + [event]
+        return event
+
+    def offer_then_take(self):
+        event = self.offer(*self.some_choice())
+        if event and not self.chance.one_in(4):
+            self.say(self.take_line(event))
+
+    def take_changed(self):
+        """The taking of an offer with its kind or a number changed; of a refused one, of any event."""
+        choice = self.some_choice()
+        event = self.offer(*choice)
+        if event is None:
+            self.say(self.take_line(self.some_event(*choice)))
+            return
+        # Stops are few.
+        if event[0] == STOPPED or self.chance.one_in(3):
+            self.take_other_kind(event)
+        if event[0] == STOPPED or self.chance.one_in(2):
+            self.take_other_number(event)
+
+    def take_other_number(self, event):
+        chance = self.chance
+        at = chance.between(1, len(event) - 1)
+        field = FIELDS[at - 1] if at < len(event) - 1 else "worker"
+        others = {event[at] - 1, event[at] + 1, 0, LARGEST, event[at] + 256, chance.below(LARGEST)} - {event[at]}
+        other = chance.pick(sorted(number for number in others if 0 <= number <= LARGEST))
+        self.say(self.take_line((*event[:at], other, *event[at + 1:])), f"a taking with another {field}")
+
+    def take_other_kind(self, event):
+        line, worker = event[1], event[-1]
+        kind = self.chance.pick([kind for kind in "SFX" if kind != event[0]])
+        if kind == STOPPED:
+            other = (kind, line, worker)
+        elif event[0] != STOPPED:
+            other = (kind, *event[1:])
+        else:
+            tables = self.console.run.tables
+            other = (kind, line, 0, *self.chance.pick([(0, 0), (tables.count, tables.placed)]), worker)
+        self.say(self.take_line(other), f"{event[0]} taken as {kind}")
+
+    def take_old(self):
+        if self.old:
+            answer = self.say(self.take_line(self.chance.pick(self.old)))
+            self.figures[f"{OLD} {'refused' if answer[0] == REFUSED else 'accepted'}"] += 1
+            self.figures[f"{OLD} R 19"] += answer == "R 19"
+
+    # Lines that are no command.
+
+    def no_command(self):
+        chance = self.chance
+        words = self.command()
+        manner = chance.below(9)
+        if manner == 0:
+            return chance.pick([b"", b"", b" ", b"  ", b"\0", b"\t", b"\r"])
+        if manner == 1:
+            return chance.pick(OTHER_WORDS)
+        if manner == 2:
+            return b" ".join(words[:chance.between(1, len(words) - 1)])
+        if manner == 3:
+            return b" ".join([chance.pick([b" ".join(words), b"ended", b"quit"]), chance.pick([b"", b"0", b"ended"])])
+        if manner == 4:
+            words[chance.below(len(words))] += chance.pick([b" ", b"\t", b"\0", b"\r", b"\x0b"])
+            return b" ".join(words)
+        if manner == 5:
+            at = chance.between(2 if words[0] == b"take" else 1, len(words) - 1)
+            words[at] = chance.pick(NO_NUMBERS)
+            return b" ".join(words)
+        if manner == 6:
+            return b"plan " + b"p" * chance.pick([0, LONGEST_PATH + 1, LONGEST_LINE - 5])
+        if manner == 7:
+            noise = bytes(chance.pick([chance.below(256), 32, 48, 49]) for _ in range(chance.below(30)))
+            return noise.replace(b"\n", b"\0")
+        # One byte put in, cut or changed; it may still be a command.
+        line = bytearray(b" ".join(words))
+        at = chance.below(len(line))
+        line[at:at + chance.below(2)] = chance.pick([b"", b" ", b"0", b"7", b"S", b"X", b"x", b"\xff"])
+        return bytes(line)
+
+    def long_line(self):
+        """A line of about the longest length, or longer than a block."""
+        chance = self.chance
+        size = chance.pick(LENGTHS)
+        words = self.command()
+        manner = chance.below(4)
+        if manner < 2:  # a command, as far as its length goes
+            words[-1] = words[-1].rjust(size - len(b" ".join(words[:-1])) - 1, b"0")
+            return b" ".join(words)
+        if manner == 2:
+            return chance.pick([b"a", b" ", b"plan ", b"ended\r"]) * (size // 4)
+        # What is left after so many bytes looks like a command.
+        return b"a" * chance.pick([8190, 8191, 8192, 65535, 65536]) + chance.pick([b"quit", b"ended", b" ".join(words)])
+
+    # The whole.
+
+    def step(self):
+        chance = self.chance
+        manner = chance.below(80)
+        if manner < 36:
+            self.say(self.numbered(b"choose", *self.some_choice()))
+        elif manner < 56:
+            self.offer_then_take()
+        elif manner < 66:
+            self.take_changed()
+        elif manner < 71:
+            self.take_old()
+        elif manner < 74:
+            self.say(b"ended")
+        elif manner < 79:
+            self.say(self.no_command())
+        elif chance.one_in(2):
+            self.say(self.long_line())
+        else:
+            self.plan()
+
+    def steps(self, many):
+        for _ in range(many):
+            self.step()
+            if self.console.run is not None and self.console.run.ended and self.chance.one_in(8):
+                return
+
+    def make(self, quits=True):
+        """Runs one after another; where it `quits`, lines come that nobody hears."""
+        chance = self.chance
+        self.steps(chance.pick([0, 0, 3, 10]))
+        for _ in range(chance.between(1, 5)):
+            self.plan()
+            opened = self.open() == "A"
+            self.steps(chance.pick([5, 40, 150, 400]) if opened else chance.between(0, 8))
+        if quits and chance.one_in(5):
+            unheard = chance.pick([0, 1, 5, 20000])
+            self.lines += [b"quit"] + [chance.pick([b"ended", b"quit", b"", b"open 1"])] * unheard
+            self.figures[QUIT] += unheard > 0
+        return self
+
+    def input(self):
+        """The bytes of the lines; the last newline may be left out."""
+        data = b"\n".join(self.lines)
+        if not self.lines:
+            return data
+        if self.lines[-1] and self.chance.one_in(2):
+            self.figures[OPEN_END] += 1
+            return data
+        return data + b"\n"
+
+    def expected(self):
+        return b"".join(b"%s\n" % answer.encode("ascii") for answer in self.answers)
+
+
+def pieces(chance, data):
+    """The input in the pieces that it is written in."""
+    sizes = chance.pick([
+        [len(data)], [BLOCK], [BLOCK, BLOCK - 1, BLOCK + 1], [8191, 8192, 30000, BLOCK],
+        [1, 2, 7, 100, 8191, 8192, BLOCK, len(data)], [20, 300, 5000],
+    ])
+    at = 0
+    while at < len(data):
+        size = max(1, chance.pick(sizes))
+        yield data[at:at + size]
+        at += size
