@@ -193,8 +193,11 @@ class Talk:
         self.rest = b""
 
     def say(self, data):
-        while data:
-            data = data[self.process.stdin.write(data):]
+        try:
+            while data:
+                data = data[self.process.stdin.write(data):]
+        except BrokenPipeError:
+            raise SystemExit("console: it ended before its input did") from None
 
     def hear(self):
         """The next line without its newline; None if none comes."""

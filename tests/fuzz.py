@@ -48,7 +48,7 @@ KINDS = (REUSED, SWAPPED, ALIKE)
 
 # More cases than these try each kind, and so do more scripts; if not, the fault is here.
 ENOUGH_CASES = 1000
-ENOUGH_SCRIPTS = 500
+ENOUGH_SCRIPTS = 300
 
 
 def random_workers(chance):

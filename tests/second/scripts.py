@@ -21,7 +21,7 @@ NAMES = [
 NOT_THERE = [b"missing", b"a.pla", b"A.plan", b"a.plan\0", b"\0", b"n" * 256, b".", b"/", b"no/a.plan", b"/dev/null"]
 
 BLOCK = 65536
-LENGTHS = (8190, 8191, 8192, 8193, 70000, 140000)
+LENGTHS = (8190, 8191, 8191, 8192, 8193, 70000, 140000)
 
 OTHER_WORDS = [
     b"end", b"Ended", b"endedd", b"QUIT", b"qui", b"chose 0 0", b"choose", b"offer", b"take", b"open", b"plan",
@@ -41,6 +41,7 @@ OLD = "an old offer"
 PADDED = "a number with leading zeros"
 KEPT = "a plan in the middle of a run"
 BLOCK_END = "a block's end in or at a command"
+LONG_OVER_BLOCK = "a long line that goes on as a command after a block's end"
 QUIT = "quit in the middle"
 OPEN_END = "a last line without its newline"
 
@@ -60,7 +61,7 @@ KINDS = (
     *(f"a taking with another {field}" for field in FIELDS),
     *(f"{one} taken as {two}" for one in "SFX" for two in "SFX" if one != two),
     f"{OLD} accepted", f"{OLD} refused", f"{OLD} R 19",
-    PADDED, KEPT, BLOCK_END, QUIT, OPEN_END,
+    PADDED, KEPT, BLOCK_END, LONG_OVER_BLOCK, QUIT, OPEN_END,
 )
 
 
@@ -105,7 +106,10 @@ class Script:
     def say(self, line, *tried):
         """The answer to one more line."""
         if self.console.run is not None and self.chance.one_in(400):
-            self.fill_block(line)
+            # A block ends in it, just before it or just after.
+            size = len(line)
+            self.fill_block(self.chance.pick([0, 1, size, size + 1, self.chance.between(0, size + 1)]))
+            self.figures[BLOCK_END] += 1
         return self.say_at_once(line, *tried)
 
     def say_at_once(self, line, *tried):
@@ -128,19 +132,16 @@ class Script:
         self.figures[KEPT] += word == "plan" and before is not None and not before.ended
         return answer
 
-    def fill_block(self, line):
-        """Lines before this one that put a block's end in it, just before it or just after."""
-        chance = self.chance
-        ahead = chance.pick([0, 1, len(line), len(line) + 1, chance.between(0, len(line) + 1)])
+    def fill_block(self, ahead):
+        """Lines that put a block's end so many bytes into what comes next."""
         room = -(self.size + ahead) % BLOCK
         # Mostly one line, long or not; else many.
-        most = chance.pick([BLOCK, BLOCK, BLOCK, 9000, 700, 6])
+        most = self.chance.pick([BLOCK, BLOCK, BLOCK, 9000, 700, 6])
         while room:
             size = min(room, most)
             self.say_at_once(b"ended" if size == 6 else (b"q" + b"quit" * size)[:size - 1])
             room -= size
         assert (self.size + ahead) % BLOCK == 0
-        self.figures[BLOCK_END] += 1
 
     # Commands.
 
@@ -198,7 +199,7 @@ class Script:
         chance = self.chance
         name = chance.pick(sorted(self.files))
         if chance.one_in(8):
-            name = chance.pick(NOT_THERE + NAMES)
+            name = chance.pick([*NOT_THERE, *NAMES, name + b"\0", name + b"\0x", name + b" ", b" " + name])
         elif chance.one_in(12):
             name = os.path.join(self.folder, name)
         elif chance.one_in(8):
@@ -301,6 +302,9 @@ class Script:
         line[at:at + chance.below(2)] = chance.pick([b"", b" ", b"0", b"7", b"S", b"X", b"x", b"\xff"])
         return bytes(line)
 
+    def say_long(self):
+        self.say(self.long_line())
+
     def long_line(self):
         """A line of about the longest length, or longer than a block."""
         chance = self.chance
@@ -314,6 +318,13 @@ class Script:
             return chance.pick([b"a", b" ", b"plan ", b"ended\r"]) * (size // 4)
         # What is left after so many bytes looks like a command.
         return b"a" * chance.pick([8190, 8191, 8192, 65535, 65536]) + chance.pick([b"quit", b"ended", b" ".join(words)])
+
+    def long_over_block(self):
+        """A long line of which the next block has what would be a command by itself."""
+        before = self.chance.pick([LONGEST_LINE + 1, self.chance.between(LONGEST_LINE, BLOCK)])
+        self.fill_block(before)
+        command = self.chance.pick([b"quit", b"ended", b" ".join(self.command())])
+        self.say_at_once(b"a" * before + command, LONG_OVER_BLOCK)
 
     # The whole.
 
@@ -332,10 +343,8 @@ class Script:
             self.say(b"ended")
         elif manner < 79:
             self.say(self.no_command())
-        elif chance.one_in(2):
-            self.say(self.long_line())
         else:
-            self.plan()
+            chance.pick([self.plan, self.plan, self.say_long, self.say_long, self.long_over_block])()
 
     def steps(self, many):
         for _ in range(many):
