@@ -223,15 +223,21 @@ class Talk:
         return left
 
 
-def talk(program, folder, lines, close=True):
-    """Each command is answered before the next one is sent; how many there were."""
+def talk(program, folder, lines, chance, close=True):
+    """Each command is answered before the rest of the next one is sent; how many answers came.
+
+    Its beginning may come with the command before.
+    """
     second = Console(folder)
     there = Talk(program, folder)
+    begun = 0
     try:
-        many = 0
-        for many, line in enumerate(lines, 1):
+        for many, line in enumerate(lines):
+            following = lines[many + 1] if many + 1 < len(lines) else b""
+            early = chance.between(0, len(following)) if chance.one_in(4) else 0
+            there.say(line[begun:] + b"\n" + following[:early])
+            begun = early
             expected = second.answer(line)
-            there.say(line + b"\n")
             if second.over:
                 break
             heard = there.hear()
@@ -239,27 +245,32 @@ def talk(program, folder, lines, close=True):
                 raise SystemExit(f"console: {line[:80]!r} was answered by {heard!r}, not {expected!r}")
             if there.rest:
                 raise SystemExit(f"console: {line[:80]!r} was answered by more than a line")
-        if there.end(close) != b"":
-            raise SystemExit("console: more was written than answered")
+        left = b""
+        if not second.over:
+            # The last line lacks its newline.
+            there.say(b"ended")
+            left = second.answer(b"ended").encode("ascii") + b"\n"
+        if there.end(close) != left:
+            raise SystemExit("console: the end of the input is not answered as it should be")
     finally:
         there.process.kill()
-    return many
+    return many + 1
 
 
 def talks(program, seed):
     """The stored run, and random scripts."""
     chance = Chance(seed)
-    many = 0
     begun = time.monotonic()
     with tempfile.TemporaryDirectory() as folder:
         put_files(folder, plans())
-        # `quit` ends it with its input open.
-        many += talk(program, folder, lines_in(stored_input()), close=False)
+        # `quit` ends it while its input is open.
+        many = talk(program, folder, lines_in(stored_input()), chance, close=False)
     for _ in range(TALKS):
         with tempfile.TemporaryDirectory() as folder:
-            many += talk(program, folder, Script(chance, folder).make(quits=False).lines)
+            lines = Script(chance, folder, one_by_one=True).make().lines
+            many += talk(program, folder, lines, chance)
     took = time.monotonic() - begun
-    print(f"console: each of {many} answers came before the next command was sent, {many / took:.0f} a second with the second implementation's")
+    print(f"console: {many} answers, each before the next command was sent, in {took:.1f} s")
 
 
 # Many commands in one file.

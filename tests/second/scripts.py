@@ -84,10 +84,14 @@ def plan_files(chance):
 
 
 class Script:
-    """The lines of one input with their answers; `figures` counts what they tried."""
+    """The lines of one input with their answers; `figures` counts what they tried.
 
-    def __init__(self, chance, folder):
+    Where they are said one by one, there are no blocks, and nothing after `quit`.
+    """
+
+    def __init__(self, chance, folder, one_by_one=False):
         self.chance = chance
+        self.one_by_one = one_by_one
         self.folder = os.fsencode(folder)
         self.files = plan_files(chance)
         for name, content in self.files.items():
@@ -105,7 +109,7 @@ class Script:
 
     def say(self, line, *tried):
         """The answer to one more line."""
-        if self.console.run is not None and self.chance.one_in(400):
+        if not self.one_by_one and self.chance.one_in(400):
             # A block ends in it, just before it or just after.
             size = len(line)
             self.fill_block(self.chance.pick([0, 1, size, size + 1, self.chance.between(0, size + 1)]))
@@ -344,7 +348,8 @@ class Script:
         elif manner < 79:
             self.say(self.no_command())
         else:
-            chance.pick([self.plan, self.plan, self.say_long, self.say_long, self.long_over_block])()
+            over = self.say_long if self.one_by_one else self.long_over_block
+            chance.pick([self.plan, self.plan, self.say_long, self.say_long, over])()
 
     def steps(self, many):
         for _ in range(many):
@@ -352,15 +357,15 @@ class Script:
             if self.console.run is not None and self.console.run.ended and self.chance.one_in(8):
                 return
 
-    def make(self, quits=True):
-        """Runs one after another; where it `quits`, lines come that nobody hears."""
+    def make(self):
+        """Runs one after another; now and then `quit`, and lines that nobody hears."""
         chance = self.chance
         self.steps(chance.pick([0, 0, 3, 10]))
         for _ in range(chance.between(1, 5)):
             self.plan()
             opened = self.open() == "A"
             self.steps(chance.pick([5, 40, 150, 400]) if opened else chance.between(0, 8))
-        if quits and chance.one_in(5):
+        if not self.one_by_one and chance.one_in(5):
             unheard = chance.pick([0, 1, 5, 20000])
             self.lines += [b"quit"] + [chance.pick([b"ended", b"quit", b"", b"open 1"])] * unheard
             self.figures[QUIT] += unheard > 0
