@@ -365,6 +365,8 @@ def script_differs(wanted, chance, number, script, folder):
     parts = []
     if not chance.one_in(4):
         parts = [(part, chance.one_in(4)) for part in scripts.pieces(chance, data)]
+    in_blocks = len(data) > scripts.BLOCK and parts and len(parts[0][0]) == scripts.BLOCK
+    script.figures[scripts.IN_BLOCKS if in_blocks else scripts.IN_PIECES if parts else scripts.AS_FILE] += 1
     given = Path(folder) / "input"
     given.write_bytes(data)
     with given.open("rb") as stdin:

@@ -40,10 +40,15 @@ FIELDS = ("line", "pipe", "token", "place", "worker")
 OLD = "an old offer"
 PADDED = "a number with leading zeros"
 KEPT = "a plan in the middle of a run"
+NUL_BYTE = "a path with a NUL byte"
+MISSING = "another path to no file"
 BLOCK_END = "a block's end in or at a command"
 LONG_OVER_BLOCK = "a long line that goes on as a command after a block's end"
 QUIT = "quit in the middle"
 OPEN_END = "a last line without its newline"
+AS_FILE = "an input as a file"
+IN_BLOCKS = "an input in pieces of a block"
+IN_PIECES = "an input in other pieces"
 
 ANSWERS = {
     "plan": ("P", *range(1, 8)),
@@ -62,6 +67,7 @@ KINDS = (
     *(f"{one} taken as {two}" for one in "SFX" for two in "SFX" if one != two),
     f"{OLD} accepted", f"{OLD} refused", f"{OLD} R 19",
     PADDED, KEPT, BLOCK_END, LONG_OVER_BLOCK, QUIT, OPEN_END,
+    NUL_BYTE, MISSING, AS_FILE, IN_BLOCKS, IN_PIECES,
 )
 
 
@@ -204,6 +210,7 @@ class Script:
         name = chance.pick(sorted(self.files))
         if chance.one_in(8):
             name = chance.pick([*NOT_THERE, *NAMES, name + b"\0", name + b"\0x", name + b" ", b" " + name])
+            self.figures[NUL_BYTE if b"\0" in name else MISSING] += name not in self.files
         elif chance.one_in(12):
             name = os.path.join(self.folder, name)
         elif chance.one_in(8):
