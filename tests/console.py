@@ -69,31 +69,42 @@ def refused_lines():
     """Plans and openings that are refused, and what the state is then."""
     for number in range(1, 8):
         yield from (f"plan refused-{number}.plan", "open 1", "open 33", *on_zeros()[:4])
-    yield from ("plan empty.plan", "plan missing.plan", "plan figure.plan ", "plan  figure.plan", "open 0")
-    yield from ("plan figure.plan", "open 1", "choose 0 0", "open 0", *on_zeros(), "open 33", "open 65535")
+    yield from ("plan empty.plan", "plan missing.plan", "plan figure.plan ", "plan  figure.plan")
+    yield "open 0"
+    yield from ("plan figure.plan", "open 1", "choose 0 0", "open 0", *on_zeros(), "open 33")
+    yield "open 65535"
     # A run goes on whatever plan is kept; the next opening goes by that.
     yield from ("open 1", "choose 0 0", "plan refused-5.plan", "choose 0 0", "open 1", "choose 0 0")
 
 
 def figure_lines():
     """Offers and takings in a hall of two."""
-    yield from ("plan figure.plan", *on_zeros(), "open 2", "ended", "offer 0 0", "offer 0 0", "offer 1 0")
+    yield from ("plan figure.plan", *on_zeros(), "open 2", "ended", "offer 0 0", "offer 0 0")
+    yield "offer 1 0"
     # Each field another, then what was offered.
-    yield from ("take F 0 0 0 0 0", "take X 0 0", "take S 1 0 0 0 0", "take S 3 0 0 0 0", "take S 0 1 0 0 0")
-    yield from ("take S 0 0 1 0 0", "take S 0 0 0 1 0", "take S 0 0 0 0 2", "take S 0 0 65535 65535 0", "take S 0 0 0 0 0")
-    yield from ("offer 0 0", "offer 1 0", "offer 0 1", "take S 0 0 0 0 0", "take X 0 0", "take F 0 0 0 0 1", "take F 0 0 0 0 0")
+    yield from ("take F 0 0 0 0 0", "take X 0 0", "take S 1 0 0 0 0", "take S 3 0 0 0 0")
+    yield "take S 0 1 0 0 0"
+    yield from ("take S 0 0 1 0 0", "take S 0 0 0 1 0", "take S 0 0 0 0 2")
+    yield from ("take S 0 0 65535 65535 0", "take S 0 0 0 0 0")
+    yield from ("offer 0 0", "offer 1 0", "offer 0 1", "take S 0 0 0 0 0", "take X 0 0")
+    yield from ("take F 0 0 0 0 1", "take F 0 0 0 0 0")
     # An old offer, of the other worker, of a line that has gone on.
-    yield from ("take F 0 0 0 0 0", "choose 0 0", "choose 1 1", "offer 0 1", "offer 1 1", "choose 0 2", "choose 1 2")
-    yield from ("take F 0 1 0 0 0", "offer 1 0", "choose 1 0", "take S 0 2 0 0 1", "offer 0 0", "take S 0 2 0 0 0", "choose 1 1")
-    yield from ("offer 0 2", "take S 2 0 2 2 0", "offer 1 2", "take S 2 0 2 2 1", "take F 0 2 0 0 0")
+    yield from ("take F 0 0 0 0 0", "choose 0 0", "choose 1 1", "offer 0 1", "offer 1 1")
+    yield from ("choose 0 2", "choose 1 2")
+    yield from ("take F 0 1 0 0 0", "offer 1 0", "choose 1 0", "take S 0 2 0 0 1", "offer 0 0")
+    yield from ("take S 0 2 0 0 0", "choose 1 1")
+    yield from ("offer 0 2", "take S 2 0 2 2 0", "offer 1 2", "take S 2 0 2 2 1")
+    yield "take F 0 2 0 0 0"
     # 10 before 26, 26 before all else.
-    yield from ("choose 2 0", "choose 2 3", "choose 0 3", "choose 65535 0", "choose 0 65535", "offer 2 0", "offer 0 3")
+    yield from ("choose 2 0", "choose 2 3", "choose 0 3", "choose 65535 0", "choose 0 65535")
+    yield from ("offer 2 0", "offer 0 3")
     yield from ("take F 3 0 0 0 2", "take F 0 0 0 0 2", "take X 3 0", "take X 0 2", "ended")
     # One worker to the end, and past it.
     yield from ("open 0001", "ended")
     for _, line in makers.one_worker_list(CASES["b"].plan(pipes=[True] * 3, lines=3)):
         yield f"choose 0 {line}"
-    yield from ("ended", "choose 0 0", "choose 0 3", "choose 1 0", "offer 0 0", "offer 0 3", "take X 2 0", "take S 0 0 0 0 1")
+    yield from ("ended", "choose 0 0", "choose 0 3", "choose 1 0", "offer 0 0", "offer 0 3")
+    yield from ("take X 2 0", "take S 0 0 0 0 1")
 
 
 def small_lines():
@@ -106,7 +117,8 @@ def small_lines():
     yield "ended"
     # Offered to one worker, taken by another: it is what the line would do for that one.
     yield from ("open 2", "offer 0 0", "take S 0 0 2 0 1", "take F 0 0 2 0 0", "take F 0 0 2 0 1")
-    yield from ("plan none.plan", "open 32", "offer 31 0", "take S 0 0 0 0 31", "take X 0 30", "take X 0 30", "ended")
+    yield from ("plan none.plan", "open 32", "offer 31 0", "take S 0 0 0 0 31", "take X 0 30")
+    yield from ("take X 0 30", "ended")
     yield from ("open 32", "take X 1 7", "choose 7 0", "ended")
     yield from ("plan longest.plan", "open 1", "offer 0 0", "choose 0 0", "ended")
 
@@ -114,18 +126,29 @@ def small_lines():
 def other_lines():
     """Lines that are no command, and some that just are."""
     yield from ("plan figure.plan", "open 1", "choose 0 0")
-    yield from ("", " ", "end", "Ended", "ended ", " ended", "ended 0", "quit ", " quit", "quit now", "figures", "draw 1")
-    yield from ("plan", "plan ", "open", "open ", "open 1 ", "open  1", " open 1", "open 1 1", "open +1", "open -1", "open 1a")
-    yield from ("open\t1", "open 65536", "open 00065536", "open 4294967297", "open 18446744073709551617", "open 1 0 3 cells")
-    yield from ("choose", "choose ", "choose 0", "choose 0 ", "choose  0", "choose 0  0", "choose 0 0 ", "choose 0 0 0")
-    yield from ("choose 65536 0", "choose 0 65536", "choose a 0", "choose 0 a", "Choose 0 0", "choose 0 " + "9" * 30)
-    yield from ("offer", "offer 0", "offer 0 ", "offer 0 0 0", "offer a 0", "offer 0 a", "offer 65536 0", "offer 00 00000")
-    yield from ("take", "take ", "take S", "take X", "take S ", "take X 0", "take X 0 ", "take X 0 0 ", "take X 0 0 0")
-    yield from ("take x 0 0", "take R 14", "take  X 0 0", "take S 0 0 0 0", "take S 0 0 0 0 ", "take S 0 0 0 0 0 0")
-    yield from ("take F 0 0 0 0", "take F 0 0 0 0 65536", "take F 65536 0 0 0 0", "take SF 0 0 0 0 0", "take SX 0 0")
+    yield from ("", " ", "end", "Ended", "ended ", " ended", "ended 0", "quit ", " quit")
+    yield from ("quit now", "figures", "draw 1")
+    yield from ("plan", "plan ", "open", "open ", "open 1 ", "open  1", " open 1", "open 1 1")
+    yield from ("open +1", "open -1", "open 1a")
+    yield from ("open\t1", "open 65536", "open 00065536", "open 4294967297")
+    yield from ("open 18446744073709551617", "open 1 0 3 cells")
+    yield from ("choose", "choose ", "choose 0", "choose 0 ", "choose  0", "choose 0  0")
+    yield from ("choose 0 0 ", "choose 0 0 0")
+    yield from ("choose 65536 0", "choose 0 65536", "choose a 0", "choose 0 a", "Choose 0 0")
+    yield "choose 0 " + "9" * 30
+    yield from ("offer", "offer 0", "offer 0 ", "offer 0 0 0", "offer a 0", "offer 0 a")
+    yield from ("offer 65536 0", "offer 00 00000")
+    yield from ("take", "take ", "take S", "take X", "take S ", "take X 0", "take X 0 ")
+    yield from ("take X 0 0 ", "take X 0 0 0")
+    yield from ("take x 0 0", "take R 14", "take  X 0 0", "take S 0 0 0 0", "take S 0 0 0 0 ")
+    yield "take S 0 0 0 0 0 0"
+    yield from ("take F 0 0 0 0", "take F 0 0 0 0 65536", "take F 65536 0 0 0 0")
+    yield from ("take SF 0 0 0 0 0", "take SX 0 0")
     # None of these has changed anything.
-    yield from ("take F 0 0 0 0 0", "offer 0 0" + "0" * 8182, "choose 0 " + "0" * 8182, "choose 0 " + "0" * 8183)
-    yield from ("plan " + "a" * 4095, "plan " + "a" * 4096, "a" * 8191, "a" * 8192, "a" * 8191 + "ended", "a" * 65536 + "quit")
+    yield from ("take F 0 0 0 0 0", "offer 0 0" + "0" * 8182, "choose 0 " + "0" * 8182)
+    yield "choose 0 " + "0" * 8183
+    yield from ("plan " + "a" * 4095, "plan " + "a" * 4096, "a" * 8191, "a" * 8192)
+    yield from ("a" * 8191 + "ended", "a" * 65536 + "quit")
     # The last line lacks its newline, and nobody hears it.
     yield from ("ended", "quit", "ended")
 
@@ -294,12 +317,15 @@ def in_one_file(program, what, offers, times):
     plan, data = full_run(offers)
     with tempfile.TemporaryDirectory() as folder:
         put_files(folder, {"full.plan": plan, "given": data * times})
-        with open(Path(folder) / "given", "rb") as stdin, open(Path(folder) / "written", "wb") as stdout:
+        given, written = Path(folder) / "given", Path(folder) / "written"
+        with given.open("rb") as stdin, written.open("wb") as stdout:
             begun = time.monotonic()
-            subprocess.run([program], cwd=folder, stdin=stdin, stdout=stdout, timeout=LONGEST_ANSWER * times, check=True)
+            subprocess.run(
+                [program], cwd=folder, stdin=stdin, stdout=stdout, timeout=LONGEST_ANSWER * times, check=True
+            )
             took = time.monotonic() - begun
-        if (Path(folder) / "written").read_bytes() != console_output(folder, data) * times:
-            raise SystemExit(f"console: {what} in one file are answered otherwise than by the second implementation")
+        if written.read_bytes() != console_output(folder, data) * times:
+            raise SystemExit(f"console: {what} in one file are not answered as by the second implementation")
     many = times * data.count(b"\n")
     print(f"console: {many} commands in one file, {what}, {many / took:.0f} a second")
     if many / took < PACE:

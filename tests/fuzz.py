@@ -366,7 +366,8 @@ def script_differs(wanted, chance, number, script, folder):
     if not chance.one_in(4):
         parts = [(part, chance.one_in(4)) for part in scripts.pieces(chance, data)]
     in_blocks = len(data) > scripts.BLOCK and parts and len(parts[0][0]) == scripts.BLOCK
-    script.figures[scripts.IN_BLOCKS if in_blocks else scripts.IN_PIECES if parts else scripts.AS_FILE] += 1
+    some_way = scripts.IN_PIECES if parts else scripts.AS_FILE
+    script.figures[scripts.IN_BLOCKS if in_blocks else some_way] += 1
     given = Path(folder) / "input"
     given.write_bytes(data)
     with given.open("rb") as stdin:
@@ -379,7 +380,9 @@ def script_differs(wanted, chance, number, script, folder):
     (kept / "got").write_bytes(there)
     print(f"script {number} of seed {wanted.seed} differs {why}".rstrip() + f"; its files are in {kept}")
     ours, theirs = expected.split(b"\n"), there.split(b"\n")
-    at = next((i for i, (one, other) in enumerate(zip(ours, theirs)) if one != other), min(len(ours), len(theirs)))
+    at = 0
+    while at < min(len(ours), len(theirs)) and ours[at] == theirs[at]:
+        at += 1
     line = script.lines[at] if at < len(script.lines) else b""
     print(f"answer {at + 1}, to {line[:80]!r}: expected {ours[at:at + 1]}, got {theirs[at:at + 1]}")
     return True

@@ -18,7 +18,10 @@ NAMES = [
     b"a.plan", b"two words.plan", b" a space first", b"a space last ", b"bl\xc3\xa5", b"\xff\xfe",
     b"0", b"quit", b"n" * 255,
 ]
-NOT_THERE = [b"missing", b"a.pla", b"A.plan", b"a.plan\0", b"\0", b"n" * 256, b".", b"/", b"no/a.plan", b"/dev/null"]
+NOT_THERE = [
+    b"missing", b"a.pla", b"A.plan", b"a.plan\0", b"\0", b"n" * 256, b".", b"/", b"no/a.plan",
+    b"/dev/null",
+]
 
 BLOCK = 65536
 LENGTHS = (8190, 8191, 8191, 8192, 8193, 70000, 140000)
@@ -79,7 +82,7 @@ def plan_files(chance):
     if chance.one_in(12):
         longest = encode(makers.longest_plan())
         contents.append(longest + bytes(chance.pick([0, 1, 1, 2, LONGEST_FILE, 70000])))
-    if chance.one_in(12):
+    if chance.one_in(6):
         contents.append(encode(makers.plan_with_total(chance.pick([8192, 8193, 8193, 8193]))))
     if chance.one_in(3):
         contents.append(chance.pick([
@@ -171,7 +174,8 @@ class Script:
         """A worker and a line, mostly such as may be chosen."""
         chance, run = self.chance, self.console.run
         if run is None or chance.one_in(30):
-            return tuple(chance.pick([0, 0, 1, 2, 31, 32, 255, 256, 65535, chance.below(65536)]) for _ in range(2))
+            any_numbers = [0, 0, 1, 2, 31, 32, 255, 256, LARGEST, chance.below(LARGEST)]
+            return chance.pick(any_numbers), chance.pick(any_numbers)
         if chance.one_in(15):
             worker = chance.pick([run.workers, run.workers + 1, run.workers - 1, chance.below(256)])
             line = chance.pick([run.lines, run.lines - 1, 0, run.lines + 1])
@@ -182,7 +186,8 @@ class Script:
         line = chance.below(run.lines) if chance.one_in(12) else chance.pick(lines)
         worker = run.practice_worker(line)
         if chance.one_in(self.others):
-            worker = chance.pick([by for by in run.worker_of if by is not None] + [chance.below(run.workers)])
+            busy = [by for by in run.worker_of if by is not None]
+            worker = chance.pick(busy + [chance.below(run.workers)])
         return worker, line
 
     def some_event(self, worker, line):
@@ -216,15 +221,19 @@ class Script:
         elif chance.one_in(8):
             size = chance.pick([4094, 4095, 4095, 4096, 4097])
             before = size - len(name)
-            tried = f"a path of {size} bytes that is there" if size <= LONGEST_PATH else f"a path above {LONGEST_PATH} bytes"
+            tried = f"a path of {size} bytes that is there"
+            if size > LONGEST_PATH:
+                tried = f"a path above {LONGEST_PATH} bytes"
             return self.say(b"plan " + b"./" * (before // 2) + b"/" * (before % 2) + name, tried)
         return self.say(b"plan " + name)
 
     def open(self):
         chance = self.chance
-        good = [1, 1, 2, 2, 3, 4, 31, 32, chance.between(1, 32)]
+        limits = [1, 1, 2, 2, 3, 4, 31, 32, chance.between(1, 32)]
+        if chance.one_in(8):
+            limits = [0, 33, 34, 256, 257, LARGEST]
         self.old.clear()
-        return self.say(self.numbered(b"open", chance.pick([0, 33, 34, 256, 257, 65535] if chance.one_in(8) else good)))
+        return self.say(self.numbered(b"open", chance.pick(limits)))
 
     # Takings.
 
@@ -259,7 +268,8 @@ class Script:
         chance = self.chance
         at = chance.between(1, len(event) - 1)
         field = FIELDS[at - 1] if at < len(event) - 1 else "worker"
-        others = {event[at] - 1, event[at] + 1, 0, LARGEST, event[at] + 256, chance.below(LARGEST)} - {event[at]}
+        now = event[at]
+        others = {now - 1, now + 1, now + 256, 0, LARGEST, chance.below(LARGEST)} - {now}
         other = chance.pick(sorted(number for number in others if 0 <= number <= LARGEST))
         self.say(self.take_line((*event[:at], other, *event[at + 1:])), f"a taking with another {field}")
 
@@ -294,7 +304,8 @@ class Script:
         if manner == 2:
             return b" ".join(words[:chance.between(1, len(words) - 1)])
         if manner == 3:
-            return b" ".join([chance.pick([b" ".join(words), b"ended", b"quit"]), chance.pick([b"", b"0", b"ended"])])
+            command = chance.pick([b" ".join(words), b"ended", b"quit"])
+            return command + b" " + chance.pick([b"", b"0", b"ended"])
         if manner == 4:
             words[chance.below(len(words))] += chance.pick([b" ", b"\t", b"\0", b"\r", b"\x0b"])
             return b" ".join(words)
@@ -328,7 +339,8 @@ class Script:
         if manner == 2:
             return chance.pick([b"a", b" ", b"plan ", b"ended\r"]) * (size // 4)
         # What is left after so many bytes looks like a command.
-        return b"a" * chance.pick([8190, 8191, 8192, 65535, 65536]) + chance.pick([b"quit", b"ended", b" ".join(words)])
+        before = chance.pick([8190, 8191, 8192, 65535, 65536])
+        return b"a" * before + chance.pick([b"quit", b"ended", b" ".join(words)])
 
     def long_over_block(self):
         """A long line of which the next block has what would be a command by itself."""

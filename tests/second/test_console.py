@@ -119,10 +119,11 @@ class Commands(InAFolder):
     def test_no_command_changes_nothing(self):
         self.check((b"plan a.plan", "P 1 1 1 0 1"), (b"open 1", "A"), (b"choose 0 0", "S 0 0 0 0 0"))
         for line in (
-            b"", b" ", b"ended ", b" ended", b"Ended", b"quit ", b" quit", b"quit\r", b"ended\0", b"plan", b"plan ", b"open", b"open ",
-            b"open  1", b"open 1 ", b"open 1 1", b"open 1\r", b"open\t1", b"choose 0", b"choose 0 0 ", b"choose  0 0", b"choose 0 0 0",
-            b"offer 0", b"take", b"take ", b"take X 0", b"take X 0 0 0", b"take S 0 0 0 0", b"take S 0 0 0 0 0 0", b"take f 0 0 0 0 0",
-            b"choose 0 65536", b"choose 65536 0", b"take F 0 0 0 65536 0", b"a" * 70000,
+            b"", b" ", b"ended ", b" ended", b"Ended", b"quit ", b" quit", b"quit\r", b"ended\0", b"plan",
+            b"plan ", b"open", b"open ", b"open  1", b"open 1 ", b"open 1 1", b"open 1\r", b"open\t1",
+            b"choose 0", b"choose 0 0 ", b"choose  0 0", b"choose 0 0 0", b"choose 0 65536", b"choose 65536 0",
+            b"offer 0", b"take", b"take ", b"take X 0", b"take X 0 0 0", b"take S 0 0 0 0",
+            b"take S 0 0 0 0 0 0", b"take f 0 0 0 0 0", b"take F 0 0 0 65536 0", b"a" * 70000,
         ):
             before, file = self.console.run.state(), self.console.file
             self.check((line, "?"))
