@@ -1,7 +1,11 @@
 -- The program's lines, text by text.
-use mathlib.Core.Path.{_≡_, ap, _∙_}
+use mathlib.Core.Path.{_≡_, sym, ap, _∙_}
 use mathlib.Core.List.{List, [], _∷_, _++_}
-use Prim.Native.Nat.{ℕ, _<_}
+use Prim.Native.Nat.{ℕ, suc, _+_, _<_, _≤_}
+use native.Mathlib.Omega.{arith}
+use native.Mathlib.Numerals.{add-one}
+use lib.ListN.{length, getD, drop}
+use lib.Seq.{drop-cons, drop-length}
 use Rattle.io.specs.Digits.{digits, Fewest}
 use Rattle.rules.specs.Answers.{answerOf}
 use Rattle.vocabulary.specs.Refusals.{numberOf}
@@ -10,8 +14,8 @@ use Rattle.vocabulary.specs.declared.answer.Stop.{Stop}
 use Rattle.vocabulary.specs.declared.answer.Answer.{Answer}
 use Rattle.vocabulary.specs.declared.refusal.Refusal.{Refusal}
 use Rattle.sink.specs.Sinks.{Output, putOf, putEach}
-use Rattle.sink.proofs.Putting.{put-one, put-first, each-first}
-use Rattle.printing.specs.Texts.{newline, decimal, numberTexts, lastTexts, refusalTexts, stopTexts, stepTexts, answerTexts}
+use Rattle.sink.proofs.Putting.{put-one, put-first, each-first, each-append}
+use Rattle.printing.specs.Texts.{newline, decimal, numberTexts, numbersTexts, lineTexts, lastTexts, refusalTexts, stopTexts, stepTexts, answerTexts}
 use Rattle.printing.proofs.Decimal.{digits-decimal, at-most-20}
 
 module _ (o : Output) {p r : Output} where
@@ -48,6 +52,26 @@ module _ (o : Output) {p r : Output} where
       (each-first p (numberTexts pipe) _ q-is
       (each-first q (numberTexts token) _ s-is
       (each-first s (numberTexts place) _ u-is r-is)))
+
+-- numbers, one a turn
+module _ (o : Output) (ns : List ℕ) (i : ℕ) where
+  pub numbers-turn : {p : Output} → i < length ns → p ≡ putEach o (numberTexts (getD ns i 0)) →
+      putEach o (numbersTexts (drop i ns)) ≡ putEach p (numbersTexts (drop (i + 1) ns))
+  unfolding numbersTexts
+  numbers-turn h p-is =
+      rw (add-one, drop-cons ns i 0 h) (each-append o (numberTexts (getD ns i 0)) (numbersTexts (drop (suc i) ns)) ∙
+      ap (λ x. putEach x (numbersTexts (drop (suc i) ns))) (sym p-is))
+
+  pub numbers-end : i ≤ length ns → length ns ≤ i → putEach o (numbersTexts (drop i ns)) ≡ o
+  unfolding numbersTexts putEach
+  numbers-end h k = let i-is : i ≡ length ns = omega arith in rw (i-is, drop-length ns)
+
+-- a line of a letter and numbers
+pub put-line : (o : Output) {p q r : Output} (letter ns : List ℕ) → p ≡ putOf o letter → q ≡ putEach p (numbersTexts ns) → r ≡ putOf q (10 ∷ []) →
+    r ≡ putEach o (lineTexts letter ns)
+unfolding lineTexts
+put-line o {p} {q} letter ns p-is q-is r-is =
+    put-first o letter (numbersTexts ns ++ newline) p-is (each-first p (numbersTexts ns) newline q-is (put-one q (10 ∷ []) r-is))
 
 -- an answer case by case
 module _ (o : Output) {r : Output} where

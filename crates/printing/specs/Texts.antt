@@ -26,6 +26,15 @@ newline = (10 ∷ []) ∷ []
 abbrev pub lastTexts : ℕ → List (List ℕ)
 lastTexts n = numberTexts n ++ newline
 
+-- numbers, each behind a space
+unfoldable pub numbersTexts : List ℕ → List (List ℕ)
+numbersTexts [] = []
+numbersTexts (n ∷ ns) = numberTexts n ++ numbersTexts ns
+
+-- a line of a letter and numbers
+unfoldable pub lineTexts : List ℕ → List ℕ → List (List ℕ)
+lineTexts letter ns = letter ∷ (numbersTexts ns ++ newline)
+
 -- `R n`
 unfoldable pub refusalTexts : ℕ → List (List ℕ)
 refusalTexts n = (82 ∷ []) ∷ lastTexts n

@@ -1,6 +1,8 @@
 // The program's lines, as they are put into a sink. A crate apart from `session`, whose must-fail edits would each check it again.
+mod line;
 mod text;
 
+pub use line::put_line;
 pub use sink::Sink;
 pub use text::put_answer;
 pub use text::put_number;

@@ -1,5 +1,4 @@
 // Runs the stored plans and runs. What it must print is made by the second implementation (tests/second/vectors.py has the format).
-mod lines;
 mod plans;
 mod runs;
 mod stored;

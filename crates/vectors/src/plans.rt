@@ -1,5 +1,4 @@
 // The stored plan files: `R n` for a refused one, `H a p l n r` for the header of an accepted one.
-use crate::lines;
 use plan::Header;
 use plan::Reading;
 use printing::Sink;
@@ -12,7 +11,7 @@ fn put_header(sink: Sink, out: &mut [u8], h: Header) -> Sink {
         h.tokens as u64,
         h.records as u64,
     ];
-    lines::put_line(sink, out, b"H", &numbers)
+    printing::put_line(sink, out, b"H", &numbers)
 }
 
 // Reads a plan file, as the reader does.

@@ -2,7 +2,6 @@
 // `# lines sum` is printed, the digest of the output.
 ghost use mathlib.Core.Path.{_≡_};
 ghost use Prim.Native.Nat.{_+_, _-_};
-use crate::lines;
 use crate::stored;
 use printing::Sink;
 use session::Session;
@@ -127,7 +126,7 @@ fn made_run(fd: i32, file: &[u8], sink: Sink, out: &mut [u8]) -> Sink {
     };
     let done = digest(file, made);
     let numbers = [done.lines, done.sum];
-    lines::put_line(sink, out, b"#", &numbers)
+    printing::put_line(sink, out, b"#", &numbers)
 }
 
 // The run that is stored after its plan.

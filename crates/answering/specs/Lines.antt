@@ -1,0 +1,22 @@
+-- The lines of the console's answers, in texts.
+use mathlib.Core.List.{List, [], _∷_}
+use Prim.Native.Nat.{ℕ}
+use Rattle.vocabulary.specs.Refusals.{numberOf}
+use Rattle.plan.specs.declared.trailer.Header.{Header}
+use Rattle.plan.specs.declared.Reading as reading
+use Rattle.opening.specs.declared.Opening as opening
+use Rattle.printing.specs.Texts.{lineTexts, refusalTexts}
+
+-- `P p l n r e`: pipes, lines, tokens, records, edition
+unfoldable pub headerTexts : Header → List (List ℕ)
+headerTexts h = lineTexts (80 ∷ []) (h .pipes ∷ h .lines ∷ h .tokens ∷ h .records ∷ h .edition ∷ [])
+
+-- of a plan file: its header, or `R n`
+unfoldable pub readingTexts : reading.Reading → List (List ℕ)
+readingTexts (reading.the-variants.Accepted h) = headerTexts h
+readingTexts (reading.the-variants.Refused why) = refusalTexts (numberOf why)
+
+-- of an opening: `A`, or `R n`
+unfoldable pub openingTexts : opening.Opening → List (List ℕ)
+openingTexts opening.the-variants.Accepted = (65 ∷ 10 ∷ []) ∷ []
+openingTexts (opening.the-variants.Refused why) = refusalTexts (numberOf why)

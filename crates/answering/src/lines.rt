@@ -1,0 +1,42 @@
+// The lines of the answers.
+ghost use mathlib.Core.Path.{_≡_};
+ghost use Rattle.sink.specs.Sinks.{putEach};
+ghost use Rattle.answering.specs.Lines.{headerTexts, readingTexts, openingTexts};
+use opening::Opening;
+use plan::Header;
+use plan::Reading;
+use printing::Sink;
+
+// `P p l n r e`: pipes, lines, tokens, records, edition.
+fn put_header(sink: Sink, out: &mut [u8], h: Header) -> Sink
+    ensures { λ r. ⌜ (r, now (out .exit)) ≡ putEach (sink, now (out .entry)) (headerTexts h) ⌝ }
+{
+    let numbers = [
+        h.pipes as u64,
+        h.lines as u64,
+        h.tokens as u64,
+        h.records as u64,
+        h.edition as u64,
+    ];
+    printing::put_line(sink, out, b"P", &numbers)
+}
+
+// Of a plan that was read its header, or `R n`.
+pub(crate) fn put_reading(sink: Sink, out: &mut [u8], reading: Reading) -> Sink
+    ensures { λ r. ⌜ (r, now (out .exit)) ≡ putEach (sink, now (out .entry)) (readingTexts reading) ⌝ }
+{
+    match reading {
+        Reading::Accepted(h) => put_header(sink, out, h),
+        Reading::Refused(why) => printing::put_refusal(sink, out, why),
+    }
+}
+
+// `A` or `R n`
+pub(crate) fn put_opening(sink: Sink, out: &mut [u8], answer: Opening) -> Sink
+    ensures { λ r. ⌜ (r, now (out .exit)) ≡ putEach (sink, now (out .entry)) (openingTexts answer) ⌝ }
+{
+    match answer {
+        Opening::Accepted => sink.put(out, b"A\n"),
+        Opening::Refused(why) => printing::put_refusal(sink, out, why),
+    }
+}

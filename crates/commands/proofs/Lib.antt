@@ -1,0 +1,8 @@
+-- Numbers in a row, as they are read;
+pub mod Arguments
+-- what a line asks for, case by case;
+pub mod Lines
+-- where its path starts;
+pub mod Paths
+-- and some lines, computed.
+pub mod Examples

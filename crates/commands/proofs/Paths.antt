@@ -1,0 +1,113 @@
+-- The path of a command is the rest of its line.
+use mathlib.Core.Path.{_≡_, refl, sym, ap, _∙_}
+use mathlib.Core.Bool.{true}
+use mathlib.Core.List.{List, [], _∷_}
+use Prim.Native.Nat.{ℕ, _+_, _≤_}
+use native.Mathlib.Omega.{arith}
+use borrow.Author.Tests.{ltb-true}
+use lib.Dec.{leb}
+use lib.ListN.{length, length-drop}
+use Rattle.rules.specs.Lists.{has}
+use Rattle.rules.proofs.lists.Tests.{by-test}
+use Rattle.words.specs.Words.{upTo, past, same}
+use Rattle.words.specs.Numbers.{shortOf}
+use Rattle.words.proofs.Walks.{past-is, has-stop}
+use Rattle.words.specs.declared.ShortNumber.{ShortNumber}
+use Rattle.words.specs.declared.ShortNumber.the-variants.{Value, Missing}
+use Rattle.commands.specs.Commands.{endedWord, quitWord, planWord, openWord, chooseWord, offerWord, takeWord, startedWord, finishedWord, stoppedWord, numbered, chosen, stepped, halted, aloneOf, isPath, planOf, openOf, chooseOf, offerOf, startedOf, finishedOf, stoppedOf, eventOf, takeOf, argumentsOf, commandOf}
+use Rattle.commands.specs.Arguments.{space, wordsIn, pairIn, stepIn}
+use Rattle.vocabulary.specs.declared.answer.Step.{Step}
+use Rattle.vocabulary.specs.declared.event.Event.{Event}
+use Rattle.commands.specs.declared.numbers.Pair as pair
+use Rattle.commands.specs.declared.numbers.StepNumbers as step
+use Rattle.commands.specs.declared.Command.{Command}
+use Rattle.commands.specs.declared.Command.the-variants.{Plan, Open, Choose, Offer, Take, Ended, Quit, Unknown}
+
+-- where a command's path starts, if it has one
+abbrev starts : Command → ℕ
+starts (Plan start) = start
+starts (Open n) = 0
+starts (Choose x) = 0
+starts (Offer x) = 0
+starts (Take e) = 0
+starts Ended = 0
+starts Quit = 0
+starts Unknown = 0
+
+number-starts : (n : ShortNumber) → starts (numbered Open n) ≡ 0
+number-starts (Value n) = refl
+number-starts Missing = refl
+
+open-starts : (arguments : List (List ℕ)) → starts (openOf arguments) ≡ 0
+unfolding openOf
+open-starts [] = refl
+open-starts (workers ∷ []) = number-starts (shortOf workers)
+open-starts (workers ∷ word ∷ more) = refl
+
+choose-starts : (n : pair.Pair) → starts (chosen Choose n) ≡ 0
+choose-starts (pair.the-variants.Values two) = refl
+choose-starts pair.the-variants.Missing = refl
+
+offer-starts : (n : pair.Pair) → starts (chosen Offer n) ≡ 0
+offer-starts (pair.the-variants.Values two) = refl
+offer-starts pair.the-variants.Missing = refl
+
+step-starts : (event : Step → Event) (n : step.StepNumbers) → starts (stepped event n) ≡ 0
+step-starts event (step.the-variants.Values s) = refl
+step-starts event step.the-variants.Missing = refl
+
+halt-starts : (n : pair.Pair) → starts (halted n) ≡ 0
+halt-starts (pair.the-variants.Values two) = refl
+halt-starts pair.the-variants.Missing = refl
+
+event-starts : (kind : List ℕ) (numbers : List (List ℕ)) → starts (eventOf kind numbers) ≡ 0
+unfolding eventOf startedOf finishedOf stoppedOf
+event-starts kind numbers =
+    by-test (same kind startedWord) (λ e. rw e (step-starts Event.Started (stepIn numbers)))
+    (λ e. by-test (same kind finishedWord) (λ f. rw (e, f) (step-starts Event.Finished (stepIn numbers)))
+    (λ f. by-test (same kind stoppedWord) (λ g. rw (e, f, g) (halt-starts (pairIn numbers))) (λ g. rw (e, f, g))))
+
+take-starts : (arguments : List (List ℕ)) → starts (takeOf arguments) ≡ 0
+unfolding takeOf
+take-starts [] = refl
+take-starts (kind ∷ numbers) = event-starts kind numbers
+
+alone-starts : (word : List ℕ) → starts (aloneOf word) ≡ 0
+unfolding aloneOf
+alone-starts word =
+    by-test (same word endedWord) (λ e. rw e) (λ e. by-test (same word quitWord) (λ f. rw (e, f)) (λ f. rw (e, f)))
+
+-- a path has a byte at least
+plan-starts : (start size : ℕ) (path : List ℕ) → start + length path ≤ size → starts (planOf start path) ≤ size
+unfolding planOf
+plan-starts start size path h =
+    by-test (isPath path) (λ e. rw e (omega arith)) (λ e. rw e (omega arith))
+
+arguments-start : (word : List ℕ) (start size : ℕ) (rest : List ℕ) → start + length rest ≤ size → starts (argumentsOf word start rest) ≤ size
+unfolding argumentsOf chooseOf offerOf
+arguments-start word start size rest h =
+    by-test (same word planWord) (λ e. rw e (plan-starts start size rest h))
+    (λ e. by-test (same word openWord) (λ f. rw (e, f, open-starts (wordsIn rest)) (omega arith))
+    (λ f. by-test (same word chooseWord) (λ g. rw (e, f, g, choose-starts (pairIn (wordsIn rest))) (omega arith))
+    (λ g. by-test (same word offerWord) (λ h'. rw (e, f, g, h', offer-starts (pairIn (wordsIn rest))) (omega arith))
+    (λ h'. by-test (same word takeWord) (λ k. rw (e, f, g, h', k, take-starts (wordsIn rest)) (omega arith)) (λ k. rw (e, f, g, h', k) (omega arith))))))
+
+module _ (line : List ℕ) (some : has line space ≡ true) where
+  -- the arguments end with the line
+  arguments-fit : length (upTo space line) + 1 + length (past space line) ≤ length line
+  arguments-fit =
+      let inside = ltb-true (length (upTo space line)) (length line) (sym (has-stop space line) ∙ some) in
+      omega (arith, inside, ap length (past-is space line), length-drop (length (upTo space line) + 1) line)
+
+-- a path starts within the line
+command-starts : (line : List ℕ) → starts (commandOf line) ≤ length line
+unfolding commandOf
+command-starts line =
+    by-test (leb (length line) 8191)
+    (λ e. by-test (has line space)
+    (λ f. rw (e, f) (arguments-start (upTo space line) (length (upTo space line) + 1) (length line) (past space line) (arguments-fit line f)))
+    (λ f. rw (e, f, alone-starts line) (omega arith)))
+    (λ e. rw e (omega arith))
+
+pub plan-within : (line : List ℕ) {start : ℕ} → commandOf line ≡ Plan start → start ≤ length line
+plan-within line e = rw e at (command-starts line)

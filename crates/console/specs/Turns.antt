@@ -1,0 +1,94 @@
+-- What the program does between one reading of its input and the next. Which bytes are read, and what a file holds, is not said.
+use mathlib.Core.Path.{_≡_}
+use mathlib.Core.Bool.{true, false}
+use mathlib.Core.List.{List}
+use Prim.Native.Nat.{ℕ, _+_, _≤_}
+use lib.ListN.{length, take}
+use Rattle.rules.specs.Lists.{has}
+use Rattle.plan.specs.Reading.{readOf, readingOf}
+use Rattle.sink.specs.Sinks.{putEach}
+use Rattle.words.specs.Words.{upTo}
+use Rattle.commands.specs.Commands.{commandOf}
+use Rattle.commands.specs.declared.Command.{Command}
+use Rattle.commands.specs.declared.Command.the-variants.{Plan, Quit}
+use Rattle.answering.specs.Lines.{readingTexts}
+use Rattle.answering.specs.Answers.{Held, heldOf}
+use Rattle.serving.specs.Lines.{linesIn}
+use Rattle.serving.specs.Serving.{forProgram, servedFrom}
+use Rattle.console.specs.declared.Console.{Console}
+use Rattle.console.specs.Inputs.{Arrived, pending, inputFrom}
+use Rattle.console.specs.Consoles.{finished, consoleFrom, refusedLong, writtenOut}
+
+-- the console with its buffers: of the plan file, of the lent numbers, of the input and of the output
+pub record Whole : Type 0 where
+  pub console : Console
+  pub file : List ℕ
+  pub memory : List ℕ
+  pub buffer : List ℕ
+  pub out : List ℕ
+
+abbrev pub whole : Console → List ℕ → List ℕ → List ℕ → List ℕ → Whole
+whole c file memory buffer out = record { console = c; file = file; memory = memory; buffer = buffer; out = out }
+
+-- the lines that are there, served; and the console then
+abbrev pub servedOf : Whole → ℕ × Held
+servedOf a =
+    servedFrom (take (a .console .size) (a .file)) 0 (linesIn (pending (a .console .input) (a .buffer))) (heldOf (a .console .session) (a .memory) (a .out))
+
+abbrev pub leftBy : Console → ℕ × Held → Console
+leftBy c served = record {
+  session = record { state = served .1 .state; sink = served .1 .output .0 };
+  size = c .size;
+  input = inputFrom (c .input) (c .input .at + served .0);
+  done = c .done;
+}
+
+pub record Answered (a : Whole) (r : Console) (memory out : List ℕ) : Type 0 where
+  pub served : ℕ × Held
+  pub is-served : served ≡ servedOf a
+  pub console : r ≡ leftBy (a .console) served
+  pub memory-is : memory ≡ served .1 .memory
+  pub output-is : out ≡ served .1 .output .1
+
+-- `plan PATH`: whatever the file was found to be, it is kept, and told by its line
+pub record Planned (c : Console) (out : List ℕ) (r : Console) (file left : List ℕ) : Type 0 where
+  pub size : r .size ≤ length file
+  pub input : r .input ≡ c .input
+  pub done : r .done ≡ c .done
+  pub state : r .session .state ≡ c .session .state
+  pub output : (r .session .sink, left) ≡ putEach (c .session .sink, out) (readingTexts (readingOf (readOf (take (r .size) file))))
+
+-- the console, the plan file and the output are these
+pub record Same (c : Console) (file out : List ℕ) (r : Console) (file' out' : List ℕ) : Type 0 where
+  pub console : r ≡ c
+  pub plan : file' ≡ file
+  pub output : out' ≡ out
+
+-- what a line that was left to the program makes of them
+pub data Obeyed (command : Command) (c : Console) (file out : List ℕ) (r : Console) (file' out' : List ℕ) : Type 0 where
+  own-plan : {start : ℕ} → command ≡ Plan start → Planned c out r file' out' → Obeyed command c file out r file' out'
+  own-quit : command ≡ Quit → Same (finished c) file out r file' out' → Obeyed command c file out r file' out'
+  not-own : forProgram command ≡ false → Same c file out r file' out' → Obeyed command c file out r file' out'
+
+-- no whole line is left: the input has ended, and nothing more is done; or what was answered is written out, and more is read
+pub data Waited (c : Console) (buffer out : List ℕ) (r : Console) (buffer' out' : List ℕ) : Type 0 where
+  over : c .input .ended ≡ true → r ≡ finished c → buffer' ≡ buffer → out' ≡ out → Waited c buffer out r buffer' out'
+  reads : c .input .ended ≡ false → r ≡ writtenOut (refusedLong c out .0) (refusedLong c out .1) (r .input) → out' ≡ refusedLong c out .1 →
+      Arrived (refusedLong c out .0 .input) (pending (refusedLong c out .0 .input) buffer) (r .input) buffer' → Waited c buffer out r buffer' out'
+
+-- a turn: the lines that are there are served; then the next one, if there is one, is obeyed, and else the console waits
+pub data Turned (a b : Whole) : Type 0 where
+  next-line : (served : ℕ × Held) → served ≡ servedOf a → has (pending (leftBy (a .console) served .input) (a .buffer)) 10 ≡ true →
+      Obeyed (commandOf (upTo 10 (pending (leftBy (a .console) served .input) (a .buffer))))
+      (consoleFrom (leftBy (a .console) served)
+      (leftBy (a .console) served .input .at + length (upTo 10 (pending (leftBy (a .console) served .input) (a .buffer))) + 1))
+      (a .file) (served .1 .output .1) (b .console) (b .file) (b .out) →
+      b .memory ≡ served .1 .memory → b .buffer ≡ a .buffer → Turned a b
+  no-line : (served : ℕ × Held) → served ≡ servedOf a → has (pending (leftBy (a .console) served .input) (a .buffer)) 10 ≡ false →
+      Waited (leftBy (a .console) served) (a .buffer) (served .1 .output .1) (b .console) (b .buffer) (b .out) →
+      b .memory ≡ served .1 .memory → b .file ≡ a .file → Turned a b
+
+-- one turn after another
+pub data Turns (a : Whole) : Whole → Type 0 where
+  none : Turns a a
+  then : {b c : Whole} → Turns a b → Turned b c → Turns a c

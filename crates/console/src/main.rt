@@ -1,0 +1,253 @@
+// The console: reads commands from standard input, a line each, and answers each with a line on standard output. Answers are written
+// out before more input is read.
+mod files;
+mod input;
+
+ghost use mathlib.Core.Path.{_≡_};
+ghost use Prim.Native.Nat.{_+_, _<_, _≤_};
+ghost use lib.ListN.{length, take, drop};
+ghost use Rattle.commands.specs.Commands.{commandOf};
+ghost use Rattle.console.specs.Inputs.{Within};
+ghost use Rattle.console.specs.Consoles.{Kept, begun, finished, consoleFrom, refusedLong};
+ghost use Rattle.console.specs.Turns.{Answered, Planned, Obeyed, Waited, Turned, Turns, whole};
+use commands::Command;
+use commands::MOST_OF_LINE;
+use input::Input;
+use printing::Sink;
+use session::Session;
+
+// What the console keeps beside its buffers: the run and its output, the plan file's size, which input is not served yet, and whether
+// all is done.
+pub struct Console {
+    pub session: Session,
+    pub size: usize,
+    pub input: Input,
+    pub done: bool,
+}
+
+// `plan PATH`: the file is kept for later commands.
+fn take_plan(was: Console, path: &[u8], file: &mut [u8], out: &mut [u8]) -> Console
+    ensures { λ r. ⌜ Planned was (now (out .entry)) r (now (file .exit)) (now (out .exit)) ⌝ }
+{
+    let session = was.session;
+    let input = was.input;
+    let size = files::read(path, file);
+    let told = answering::answer_plan(session, &file[..size], out);
+    Console {
+        session: told,
+        size: size,
+        input: input,
+        done: was.done,
+    }
+}
+
+// After `quit`, and after the last line of the input, nothing more is done.
+fn finish(was: Console) -> Console
+    ensures { λ r. ⌜ r ≡ finished was ⌝ }
+{
+    let session = was.session;
+    let input = was.input;
+    Console {
+        session: session,
+        size: was.size,
+        input: input,
+        done: true,
+    }
+}
+
+// Does what a line asks for that is the program's own; only such a line is left by `serve` (`left-is-own`).
+fn obey(was: Console, line: &[u8], file: &mut [u8], out: &mut [u8]) -> Console
+    requires { ⌜ was .size ≤ length (now file) ⌝ }
+    ensures kept { λ r. ⌜ (r .size ≤ length (now (file .exit))) × (r .input ≡ was .input) ⌝ }
+    ensures obeys { λ r. ⌜ Obeyed (commandOf (now (line .entry))) was (now (file .entry)) (now (out .entry)) r (now (file .exit)) (now (out .exit)) ⌝ }
+{
+    match commands::parse(line) {
+        Command::Plan(start) => take_plan(was, &line[start..], file, out),
+        Command::Quit => finish(was),
+        Command::Open(_) => was,
+        Command::Choose(_) => was,
+        Command::Offer(_) => was,
+        Command::Take(_) => was,
+        Command::Ended => was,
+        Command::Unknown => was,
+    }
+}
+
+// The next line, of so many bytes, is the program's own.
+fn own_line(was: Console, size: usize, file: &mut [u8], buffer: &[u8], out: &mut [u8]) -> Console
+    requires { ⌜ Kept (length (now file)) (length (now buffer)) was ⌝ }
+    requires { ⌜ was .input .at + size < was .input .end ⌝ }
+    ensures kept { λ r. ⌜ Kept (length (now (file .exit))) (length (now (buffer .entry))) r ⌝ }
+    ensures obeys { λ r. ⌜ Obeyed (commandOf (take size (drop (was .input .at) (now (buffer .entry))))) (consoleFrom was (was .input .at + size + 1))
+        (now (file .entry)) (now (out .entry)) r (now (file .exit)) (now (out .exit)) ⌝ }
+{
+    let session = was.session;
+    let input = was.input;
+    let at = input.at;
+    let stop = at + size;
+    let next = Console {
+        session: session,
+        size: was.size,
+        input: input.from(stop + 1),
+        done: was.done,
+    };
+    obey(next, &buffer[at..stop], file, out)
+}
+
+// What is left of the input, with no newline, where it is too long for a line: it is answered once, and passed over.
+fn refuse_long(was: Console, out: &mut [u8]) -> Console
+    requires { ⌜ was .input .at ≤ was .input .end ⌝ }
+    ensures size { λ r. ⌜ r .size ≡ was .size ⌝ }
+    ensures refuses { λ r. ⌜ (r, now (out .exit)) ≡ refusedLong was (now (out .entry)) ⌝ }
+{
+    let session = was.session;
+    let input = was.input;
+    if input.end - input.at <= MOST_OF_LINE {
+        return was;
+    }
+    let state = session.state;
+    let sink = session.sink;
+    let told = sink.put(out, b"?\n");
+    Console {
+        session: Session {
+            state: state,
+            sink: told,
+        },
+        size: was.size,
+        input: input.too_long(),
+        done: was.done,
+    }
+}
+
+// No whole line is left: what is answered is written out, and more input is read, unless it has ended.
+fn wait(was: Console, buffer: &mut [u8], out: &mut [u8]) -> Console
+    requires { ⌜ Within (length (now buffer)) (was .input) ⌝ }
+    ensures kept { λ r. ⌜ (r .size ≡ was .size) × Within (length (now (buffer .exit))) (r .input) ⌝ }
+    ensures waits { λ r. ⌜ Waited was (now (buffer .entry)) (now (out .entry)) r (now (buffer .exit)) (now (out .exit)) ⌝ }
+{
+    if was.input.ended {
+        return finish(was);
+    }
+    let left = refuse_long(was, out);
+    let session = left.session;
+    let state = session.state;
+    let sink = session.sink;
+    let input = left.input;
+    let written = sink.flush(out);
+    Console {
+        session: Session {
+            state: state,
+            sink: written,
+        },
+        size: left.size,
+        input: input::read_more(input, buffer),
+        done: left.done,
+    }
+}
+
+// The lines that were read are answered, up to one that is the program's own.
+fn answer_lines(
+    was: Console,
+    file: &[u8],
+    mem: &mut [u16],
+    buffer: &[u8],
+    out: &mut [u8],
+) -> Console
+    requires { ⌜ Kept (length (now file)) (length (now buffer)) was ⌝ }
+    ensures kept { λ r. ⌜ Kept (length (now (file .entry))) (length (now (buffer .entry))) r ⌝ }
+    ensures serves { λ r. ⌜ Answered (whole was (now (file .entry)) (now (mem .entry)) (now (buffer .entry)) (now (out .entry))) r
+        (now (mem .exit)) (now (out .exit)) ⌝ }
+{
+    let session = was.session;
+    let size = was.size;
+    let input = was.input;
+    let at = input.at;
+    let end = input.end;
+    let served = serving::serve(session, &buffer[at..end], &file[..size], mem, out);
+    let after = served.session;
+    Console {
+        session: after,
+        size: size,
+        input: input.from(at + served.at),
+        done: was.done,
+    }
+}
+
+// Answers what was read; then there is a line that is the program's own, or more is to be read.
+fn turn(
+    was: Console,
+    file: &mut [u8],
+    mem: &mut [u16],
+    buffer: &mut [u8],
+    out: &mut [u8],
+) -> Console
+    requires { ⌜ Kept (length (now file)) (length (now buffer)) was ⌝ }
+    ensures kept { λ r. ⌜ Kept (length (now (file .exit))) (length (now (buffer .exit))) r ⌝ }
+    ensures turns { λ r. ⌜ Turned (whole was (now (file .entry)) (now (mem .entry)) (now (buffer .entry)) (now (out .entry)))
+        (whole r (now (file .exit)) (now (mem .exit)) (now (buffer .exit)) (now (out .exit))) ⌝ }
+{
+    let left = answer_lines(was, file, mem, buffer, out);
+    let input = left.input;
+    let size = input::line_size(input, buffer);
+    if input.end - input.at <= size {
+        return wait(left, buffer, out);
+    }
+    own_line(left, size, file, buffer, out)
+}
+
+// The state of zeros, an empty plan file and no input.
+fn begin(mem: &mut [u16]) -> Console
+    ensures begins { λ r. ⌜ r ≡ begun ⌝ }
+    ensures memory { λ _. ⌜ now (mem .exit) ≡ now (mem .entry) ⌝ }
+{
+    let none = opening::open(b"", 0, mem);
+    let state = none.state;
+    Console {
+        session: Session {
+            state: state,
+            sink: Sink::written(),
+        },
+        size: 0,
+        input: Input::none(),
+        done: false,
+    }
+}
+
+// A proved loop has to end, and nothing says that the input does: so the loop counts its turns down, from a number that no
+// input uses up.
+fn run(
+    first: Console,
+    file: &mut [u8],
+    mem: &mut [u16],
+    buffer: &mut [u8],
+    out: &mut [u8],
+) -> Console
+    requires { ⌜ Kept (length (now file)) (length (now buffer)) first ⌝ }
+    ensures { λ r. ⌜ Turns (whole first (now (file .entry)) (now (mem .entry)) (now (buffer .entry)) (now (out .entry)))
+        (whole r (now (file .exit)) (now (mem .exit)) (now (buffer .exit)) (now (out .exit))) ⌝ }
+{
+    let mut now = first;
+    let mut turns = u64::MAX;
+    while turns > 0 {
+        now = turn(now, file, mem, buffer, out);
+        if now.done {
+            turns = 0;
+        } else {
+            turns -= 1;
+        }
+    }
+    now
+}
+
+// The buffer for plan files takes one byte more than the longest, so that a longer file is seen to be longer.
+fn main() {
+    let mut file = [0u8; 32797];
+    let mut mem = [0u16; 32768];
+    let mut buffer = io::large_buffer();
+    let mut out = io::large_buffer();
+    let first = begin(&mut mem);
+    let last = run(first, &mut file, &mut mem, &mut buffer, &mut out);
+    let session = last.session;
+    let sink = session.sink;
+    sink.flush(&out);
+}

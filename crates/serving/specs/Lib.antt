@@ -1,0 +1,4 @@
+-- The lines of a text;
+pub mod Lines
+-- and what answering them makes of the console.
+pub mod Serving
