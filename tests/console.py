@@ -24,7 +24,7 @@ sys.path.insert(0, str(HERE / "second"))
 import makers
 from cases import CASES
 from chance import Chance
-from console import Console, answers_to, console_output, lines_in
+from console import LONGEST_LINE, Console, answers_to, console_output, lines_in
 from makers import raw_file, raw_record
 from plan_file import Plan, encode
 from program import line_of
@@ -257,7 +257,8 @@ def talk(program, folder, lines, chance, close=True):
     try:
         for many, line in enumerate(lines):
             following = lines[many + 1] if many + 1 < len(lines) else b""
-            early = chance.between(0, len(following)) if chance.one_in(4) else 0
+            # A line that is too long is answered as soon as that is seen.
+            early = chance.between(0, min(len(following), LONGEST_LINE)) if chance.one_in(4) else 0
             there.say(line[begun:] + b"\n" + following[:early])
             begun = early
             expected = second.answer(line)
