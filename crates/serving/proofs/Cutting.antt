@@ -70,6 +70,26 @@ rest-some (b ∷ s) e =
     (λ k. by-test (has s 10) (λ h. rw (k, h)) (λ h. rw (k, h) (sym (rest-none s h))))
     (λ k. let h : has s 10 ≡ true = rw k at e in rw (k, h) (rest-some s h))
 
+-- the first whole line from a place of a text on, and where the next one starts
+record First (text : List ℕ) (at : ℕ) (line : List ℕ) (lines : List (List ℕ)) : Type 0 where
+  is : upTo 10 (drop at text) ≡ line
+  next : past 10 (drop at text) ≡ drop (at + (length line + 1)) text
+  others : linesIn (drop (at + (length line + 1)) text) ≡ lines
+
+first : (text : List ℕ) (at : ℕ) (line : List ℕ) (lines : List (List ℕ)) → has (drop at text) 10 ≡ true → linesIn (drop at text) ≡ line ∷ lines →
+    First text at line lines
+first text at line lines h e =
+    let some = lines-some (drop at text) h in
+    let line-is : upTo 10 (drop at text) ≡ line = cc in
+    let next-is : past 10 (drop at text) ≡ drop (at + (length line + 1)) text = sym (past-is 10 (drop at text)) ∙
+    ap (λ l. drop (length l + 1) (drop at text)) line-is ∙ drop-drop (length line + 1) at text in
+    let lines-are : linesIn (past 10 (drop at text)) ≡ lines = cc in
+    record { is = line-is; next = next-is; others = ap linesIn (sym next-is) ∙ lines-are }
+
+-- without a whole line there is none
+none-first : (text : List ℕ) (at : ℕ) (line : List ℕ) (lines : List (List ℕ)) → has (drop at text) 10 ≡ false → linesIn (drop at text) ≡ line ∷ lines → ⊥
+none-first text at line lines h e = let none = lines-none (drop at text) h in let y : _≡_ {A = ℕ} 0 1 = cc in omega arith
+
 -- where lines were served up to, what is left starts
 module _ (file text : List ℕ) where
   served-up-to : (lines : List (List ℕ)) (at : ℕ) (c : Held) → linesIn (drop at text) ≡ lines →
@@ -82,14 +102,10 @@ module _ (file text : List ℕ) where
   served-up-to (line ∷ lines) at c e others =
       by-test (has (drop at text) 10)
       (λ h.
-      let some = lines-some (drop at text) h in
-      let line-is : upTo 10 (drop at text) ≡ line = cc in
-      let next : past 10 (drop at text) ≡ drop (at + (length line + 1)) text = sym (past-is 10 (drop at text)) ∙
-      ap (λ l. drop (length l + 1) (drop at text)) line-is ∙ drop-drop (length line + 1) at text in
-      let lines-are : linesIn (past 10 (drop at text)) ≡ lines = cc in
-      rw (others .0) (served-up-to lines (at + (length line + 1)) (answered file (commandOf line) c) (ap linesIn (sym next) ∙ lines-are) (others .1) ∙
-      ap restOf (sym next) ∙ sym (rest-some (drop at text) h)))
-      (λ h. let none = lines-none (drop at text) h in let y : _≡_ {A = ℕ} 0 1 = cc in absurd (omega arith))
+      let f = first text at line lines h e in
+      rw (others .0) (served-up-to lines (at + (length line + 1)) (answered file (commandOf line) c) (f .others) (others .1) ∙
+      ap restOf (sym (f .next)) ∙ sym (rest-some (drop at text) h)))
+      (λ h. absurd (none-first text at line lines h e))
 
   -- a line that is left whole is the program's own
   served-stop : (lines : List (List ℕ)) (at : ℕ) (c : Held) → linesIn (drop at text) ≡ lines →
@@ -99,15 +115,11 @@ module _ (file text : List ℕ) where
   served-stop (line ∷ lines) at c e h =
       by-test (has (drop at text) 10)
       (λ k.
-      let some = lines-some (drop at text) k in
-      let line-is : upTo 10 (drop at text) ≡ line = cc in
-      let next : past 10 (drop at text) ≡ drop (at + (length line + 1)) text = sym (past-is 10 (drop at text)) ∙
-      ap (λ l. drop (length l + 1) (drop at text)) line-is ∙ drop-drop (length line + 1) at text in
-      let lines-are : linesIn (past 10 (drop at text)) ≡ lines = cc in
+      let f = first text at line lines k e in
       by-test (forProgram (commandOf line))
-      (λ t. rw (t, line-is) t)
-      (λ t. rw t (served-stop lines (at + (length line + 1)) (answered file (commandOf line) c) (ap linesIn (sym next) ∙ lines-are) (rw t at h))))
-      (λ k. let none = lines-none (drop at text) k in let y : _≡_ {A = ℕ} 0 1 = cc in absurd (omega arith))
+      (λ t. rw (t, f .is) t)
+      (λ t. rw t (served-stop lines (at + (length line + 1)) (answered file (commandOf line) c) (f .others) (rw t at h))))
+      (λ k. absurd (none-first text at line lines k e))
 
   pub served-own-line : (c : Held) → has (drop (servedFrom file 0 (linesIn text) c .0) text) 10 ≡ true →
       forProgram (commandOf (upTo 10 (drop (servedFrom file 0 (linesIn text) c .0) text))) ≡ true
