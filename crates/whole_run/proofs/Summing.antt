@@ -1,15 +1,22 @@
 -- The checksum of a list of choices, one choice at a time, and of an answer.
-use mathlib.Core.Path.{_≡_, refl, ap, _∙_}
+use mathlib.Core.Path.{_≡_, refl, sym, ap, _∙_}
 use mathlib.Core.List.{List}
-use Prim.Native.Nat.{ℕ, _+_, _*_, _<_, _≤_}
+use native.Mathlib.Omega.{arith}
+use Prim.Native.Nat.{ℕ, _+_, _*_, _/_, _<_, _≤_}
 use lib.ListN.{length, getD, drop}
 use Rattle.rules.specs.Answers.{answerOf}
 use Rattle.vocabulary.specs.Refusals.{numberOf}
-use Rattle.rules.specs.Choices.{Choice, choicesIn, choose, answers, follow}
+use Rattle.rules.specs.Choices as rules
+use Rattle.rules.specs.Choices.{choicesIn, choose, answers, follow}
+use Rattle.rules.specs.Offers.{eventOf, offer, takeOffered}
+use Rattle.rules.proofs.choices.Offered.{taken-as-chosen}
+use Rattle.rules.proofs.choices.Outcomes.{refused-unchanged}
 use Rattle.vocabulary.specs.declared.answer.Step.{Step}
 use Rattle.vocabulary.specs.declared.answer.Stop.{Stop}
 use Rattle.vocabulary.specs.declared.answer.Answer.{Answer}
+use Rattle.vocabulary.specs.declared.event.Event.{Event}
 use Rattle.vocabulary.specs.declared.refusal.Refusal.{Refusal}
+use Rattle.tables.specs.State as tables
 use Rattle.tables.specs.Calls.{memorySource}
 use Rattle.state.specs.Machines.{machineOf}
 use Rattle.engine.specs.Machines.{chosenOf}
@@ -40,37 +47,107 @@ module _ {a : Answer} {v : ℕ} where
   unfolding valueOf answerOf
   value-refused e n-is h = rw (e, h, n-is)
 
--- a choice's answer is added, and the rest is summed from there
-module _ (s : State) (m : List ℕ) (bytes : List ℕ) (k sum : ℕ) where
-  -- what is left of the choices
-  abbrev rest : ℕ → List Choice
-  rest i = choicesIn (drop (2 * i) bytes)
+-- the answer that gives an event
+abbrev pub giving : Event → Answer
+giving (Event.Started s) = Answer.Started s
+giving (Event.Finished s) = Answer.Finished s
+giving (Event.Stopped s) = Answer.Stopped s
 
-  -- a call of `choose` with the worker and the line of choice k
-  abbrev Called : Chosen → List ℕ → Type 0
-  Called r m′ = chosenOf r m′ ≡ choose memorySource (machineOf s m) (getD bytes (2 * k) 0) (getD bytes (2 * k + 1) 0)
+given-is : (e : Event) → answerOf (giving e) ≡ eventOf e
+unfolding answerOf
+given-is (Event.Started s) = refl
+given-is (Event.Finished s) = refl
+given-is (Event.Stopped s) = refl
 
-  pub called : (r : Chosen) (m′ : List ℕ) {w l : ℕ} → chosenOf r m′ ≡ choose memorySource (machineOf s m) w l →
-      w ≡ getD bytes (2 * k) 0 → l ≡ getD bytes (2 * k + 1) 0 → Called r m′
-  called r m′ e w-is l-is = rw (← w-is, ← l-is) e
+module _ (s : State) (m : List ℕ) (bytes : List ℕ) (k : ℕ) where
+  -- choice k, made
+  abbrev chosen-there : rules.Chosen tables.State
+  chosen-there = choose memorySource (machineOf s m) (getD bytes (2 * k) 0) (getD bytes (2 * k + 1) 0)
 
-  pub sum-turn : (r : Chosen) (m′ : List ℕ) {n : ℕ} → 2 * k + 1 < length bytes → Called r m′ → n ≡ mixed sum (valueOf (answerOf (r .answer))) →
-      checksum sum (answers memorySource (machineOf s m) (rest k)) ≡ checksum n (answers memorySource (machineOf (r .state) m′) (rest (k + 1)))
-  unfolding checksum chosenOf
-  sum-turn r m′ h e n-is = rw (answers-turn bytes k memorySource (machineOf s m) h, ← e, n-is)
+  -- it answers this, and leaves this state and memory
+  pub record Turned (a : Answer) (s′ : State) (m′ : List ℕ) : Type 0 where
+    pub answers-so : answerOf a ≡ chosen-there .answer
+    pub leaves : machineOf s′ m′ ≡ chosen-there .machine
 
-  pub sum-end : length bytes ≤ 2 * k + 1 → checksum sum (answers memorySource (machineOf s m) (rest k)) ≡ sum
-  unfolding checksum
-  sum-end h = rw (answers-end bytes k memorySource (machineOf s m) h)
+  -- by calls with the worker and the line of choice k:
+  module _ {w l : ℕ} (w-is : w ≡ getD bytes (2 * k) 0) (l-is : l ≡ getD bytes (2 * k + 1) 0) where
+    chosen-is : choose memorySource (machineOf s m) w l ≡ chosen-there
+    chosen-is = rw (w-is, l-is)
 
-  pub machine-turn : (r : Chosen) (m′ : List ℕ) → 2 * k + 1 < length bytes → Called r m′ →
-      follow memorySource (machineOf s m) (rest k) ≡ follow memorySource (machineOf (r .state) m′) (rest (k + 1))
-  unfolding chosenOf
-  machine-turn r m′ h e = follow-turn bytes k memorySource (machineOf s m) (machineOf (r .state) m′) h (ap (λ c. c .machine) e)
+    -- `choose` alone,
+    pub chosen-turn : (r : Chosen) (m′ : List ℕ) → chosenOf r m′ ≡ choose memorySource (machineOf s m) w l → Turned (r .answer) (r .state) m′
+    unfolding chosenOf
+    chosen-turn r m′ e = record { answers-so = ap (λ c. c .answer) (e ∙ chosen-is); leaves = ap (λ c. c .machine) (e ∙ chosen-is) }
 
-  pub memory-end : length bytes ≤ 2 * k + 1 → follow memorySource (machineOf s m) (rest k) .source .1 ≡ m
-  unfolding machineOf
-  memory-end h = ap (λ x. x .source .1) (follow-end bytes k memorySource (machineOf s m) h)
+    -- or `offer` first
+    module _ (a : Answer) (offers : answerOf a ≡ offer memorySource (machineOf s m) w l) where
+      offered-is : answerOf a ≡ chosen-there .answer
+      offered-is = offers ∙ ap (λ c. c .answer) chosen-is
+
+      -- and then `choose`,
+      pub offered-turn : (r : Chosen) (m′ : List ℕ) → chosenOf r m′ ≡ choose memorySource (machineOf s m) w l → Turned a (r .state) m′
+      offered-turn r m′ e = record { answers-so = offered-is; leaves = chosen-turn r m′ e .leaves }
+
+      -- or, of an event, `take_offered`,
+      pub taken-turn : (e : Event) → a ≡ giving e → (r : Chosen) (m′ : List ℕ) → chosenOf r m′ ≡ takeOffered memorySource (machineOf s m) e →
+          Turned a (r .state) m′
+      taken-turn e told r m′ takes =
+          offered-turn r m′ (takes ∙ taken-as-chosen memorySource (machineOf s m) w l e (sym offers ∙ ap answerOf told ∙ given-is e))
+
+      -- or, of a refusal, nothing
+      pub refused-turn : (why : Refusal) → a ≡ Answer.Refused why → Turned a s m
+      unfolding answerOf
+      refused-turn why told = record {
+        answers-so = offered-is;
+        leaves = sym (refused-unchanged memorySource (machineOf s m) w l (numberOf why) (sym offers ∙ ap answerOf told)) ∙ ap (λ c. c .machine) chosen-is;
+      }
+
+-- the choices of the bytes, some of which are made: the sum and the machine go on as those at the start do
+module _ (bytes m₀ : List ℕ) (s₀ : State) (sum₀ count : ℕ) where
+  pub record GoesOn (m : List ℕ) (s : State) (sum k : ℕ) : Type 0 where
+    pub count-is : count ≡ length bytes / 2
+    pub made : k ≤ count
+    pub lent : length m ≡ length m₀
+    pub sum-goes : checksum sum₀ (answers memorySource (machineOf s₀ m₀) (choicesIn bytes)) ≡
+        checksum sum (answers memorySource (machineOf s m) (choicesIn (drop (2 * k) bytes)))
+    pub machine-goes : follow memorySource (machineOf s₀ m₀) (choicesIn bytes) ≡ follow memorySource (machineOf s m) (choicesIn (drop (2 * k) bytes))
+
+module _ {bytes m₀ : List ℕ} {s₀ : State} {sum₀ count : ℕ} {m : List ℕ} {s : State} {sum k : ℕ} (inv : GoesOn bytes m₀ s₀ sum₀ count m s sum k) where
+  -- after a turn, its answer added,
+  module _ {a : Answer} {s′ : State} {m′ : List ℕ} {n : ℕ} (left : k < count) (turned : Turned s m bytes k a s′ m′) (n-is : n ≡ mixed sum (valueOf (answerOf a))) where
+    fits : 2 * k + 1 < length bytes
+    fits = omega (arith, inv .count-is, left)
+
+    sum-turn : checksum sum (answers memorySource (machineOf s m) (choicesIn (drop (2 * k) bytes))) ≡
+        checksum n (answers memorySource (machineOf s′ m′) (choicesIn (drop (2 * (k + 1)) bytes)))
+    unfolding checksum
+    sum-turn = rw (answers-turn bytes k memorySource (machineOf s m) fits, ← turned .answers-so, ← turned .leaves, n-is)
+
+    pub again : length m′ ≡ length m → GoesOn bytes m₀ s₀ sum₀ count m′ s′ n (k + 1)
+    again same = record {
+      count-is = inv .count-is;
+      made = omega (arith, left);
+      lent = same ∙ inv .lent;
+      sum-goes = inv .sum-goes ∙ sum-turn;
+      machine-goes = inv .machine-goes ∙ follow-turn bytes k memorySource (machineOf s m) (machineOf s′ m′) fits (turned .leaves);
+    }
+
+  -- and after the last
+  module _ (over : count ≤ k) where
+    done : length bytes ≤ 2 * k + 1
+    done = omega (arith, inv .count-is, over)
+
+    sum-end : checksum sum (answers memorySource (machineOf s m) (choicesIn (drop (2 * k) bytes))) ≡ sum
+    unfolding checksum
+    sum-end = rw (answers-end bytes k memorySource (machineOf s m) done)
+
+    memory-end : follow memorySource (machineOf s m) (choicesIn (drop (2 * k) bytes)) .source .1 ≡ m
+    unfolding machineOf
+    memory-end = ap (λ x. x .source .1) (follow-end bytes k memorySource (machineOf s m) done)
+
+    pub at-end : (sum ≡ checksum sum₀ (answers memorySource (machineOf s₀ m₀) (choicesIn bytes))) ×
+        (m ≡ follow memorySource (machineOf s₀ m₀) (choicesIn bytes) .source .1)
+    at-end = (sym (inv .sum-goes ∙ sum-end), sym (ap (λ x. x .source .1) (inv .machine-goes) ∙ memory-end))
 
 -- the whole run, by what the opening answered
 module _ (file : List ℕ) (workers : ℕ) (choices m : List ℕ) {o : Opened} {m′ : List ℕ}

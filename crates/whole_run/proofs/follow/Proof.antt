@@ -1,30 +1,20 @@
--- `whole_run::follow` meets its contract. The invariant: the sum and the state go on as those at the start do.
-use mathlib.Core.Path.{_≡_, refl, sym, ap, _∙_}
+-- `whole_run::follow` meets its contract.
+use mathlib.Core.Path.{_≡_, refl}
 use native.Mathlib.Omega.{arith}
-use Prim.Native.Nat.{_≤_, _-_, _*_, _/_}
-use lib.ListN.{length, drop}
-use Rattle.rules.specs.Choices.{choicesIn, answers, follow}
-use Rattle.tables.specs.Calls.{memorySource}
-use Rattle.state.specs.Machines.{machineOf}
-use Rattle.whole_run.specs.Checksums.{checksum}
+use Prim.Native.Nat.{_-_}
 use Rattle.whole_run.proofs.Summing as laws
 use borrow.Author.Needs.{needs}
 use Rattle.whole_run.proofs.follow.Statement.{statement}
 use Rattle.whole_run.proofs.follow.Tie as tie
 
 abbrev Inv-loop : tie.InvT-loop
-Inv-loop choices mem₀ chosen₀ sum₀ count k₀ mem chosen sum k =
-    (count ≡ length choices / 2) × (k ≤ count) × (length mem ≡ length mem₀) ×
-    (checksum sum₀ (answers memorySource (machineOf (chosen₀ .state) mem₀) (choicesIn choices)) ≡
-    checksum sum (answers memorySource (machineOf (chosen .state) mem) (choicesIn (drop (2 * k) choices)))) ×
-    (follow memorySource (machineOf (chosen₀ .state) mem₀) (choicesIn choices) ≡
-    follow memorySource (machineOf (chosen .state) mem) (choicesIn (drop (2 * k) choices)))
+Inv-loop choices mem₀ chosen₀ sum₀ count k₀ mem chosen sum k = laws.GoesOn choices mem₀ (chosen₀ .state) sum₀ count mem (chosen .state) sum k
 
 abbrev μ-loop : tie.MeasureT-loop
 μ-loop choices mem₀ chosen₀ sum₀ count k₀ mem chosen sum k = count - k
 
 loop-holds : tie.Need-loop-holds Inv-loop μ-loop
-loop-holds c = (refl, omega arith, refl, refl, refl)
+loop-holds c = record { count-is = refl; made = omega arith; lent = refl; sum-goes = refl; machine-goes = refl }
 
 mul-wide : tie.Need-mul-wide Inv-loop μ-loop
 mul-wide c = search needs
@@ -65,36 +55,16 @@ loop-again c =
     let at-line = at-choose .before .before in
     let at-worker = at-line .before .before in
     let in-loop = at-worker .before .before .before in
-    let at-loop = in-loop .before in
-    let inv = at-loop .loop .inv in
-    let choices = at-loop .before .before .before .args .choices .now in
-    let state = at-loop .loop .chosen .state in
-    let mem = at-loop .loop .mem in
-    let k = at-loop .loop .k in
-    let sum = at-loop .loop .sum in
-    let called = laws.called state mem choices k sum _ _ (at-choose .choose .ensures) (at-worker .wide .ensures) (at-line .wide2 .ensures) in (
-      inv .0,
-      omega (arith, in-loop .loop-test .taken),
-      omega (arith, inv .2, at-choose .choose .kept .1 .0),
-      inv .3 ∙ laws.sum-turn state mem choices k sum _ _ (omega (arith, inv .0, in-loop .loop-test .taken)) called (c .add .ensures),
-      inv .4 ∙ laws.machine-turn state mem choices k sum _ _ (omega (arith, inv .0, in-loop .loop-test .taken)) called,
-    )
+    let inv = in-loop .before .loop .inv in
+    laws.again inv (in-loop .loop-test .taken)
+    (laws.chosen-turn _ _ _ _ (at-worker .wide .ensures) (at-line .wide2 .ensures) _ _ (at-choose .choose .ensures))
+    (c .add .ensures) (at-choose .choose .kept .1 .0)
 
 same-length : tie.Need-same-length Inv-loop μ-loop
 same-length c = search needs
 
 returns : tie.Need-returns Inv-loop μ-loop
-returns c =
-    let at-loop = c .before in
-    let inv = at-loop .loop .inv in
-    let choices = at-loop .before .before .before .args .choices .now in
-    let state = at-loop .loop .chosen .state in
-    let mem = at-loop .loop .mem in
-    let k = at-loop .loop .k in
-    let sum = at-loop .loop .sum in (
-      sym (inv .3 ∙ laws.sum-end state mem choices k sum (omega (arith, inv .0, inv .1, c .loop-test .left))),
-      sym (ap (λ m. m .source .1) (inv .4) ∙ laws.memory-end state mem choices k sum (omega (arith, inv .0, inv .1, c .loop-test .left))),
-    )
+returns c = laws.at-end (c .before .loop .inv) (c .loop-test .left)
 
 pub follow-spec : {M : Type 1} → statement M
 follow-spec =

@@ -1,0 +1,176 @@
+-- `whole_run::offered::follow_taken` meets its contract.
+use mathlib.Core.Path.{_≡_, refl}
+use native.Mathlib.Omega.{arith}
+use Prim.Native.Nat.{_-_}
+use Rattle.vocabulary.specs.declared.event.Event.{Event}
+use Rattle.whole_run.proofs.Summing as laws
+use borrow.Author.Needs.{needs}
+use Rattle.whole_run.proofs.offered.follow_taken.Statement.{statement}
+use Rattle.whole_run.proofs.offered.follow_taken.Tie as tie
+
+abbrev Inv-loop : tie.InvT-loop
+Inv-loop choices mem₀ chosen₀ sum₀ count k₀ mem chosen sum k = laws.GoesOn choices mem₀ (chosen₀ .state) sum₀ count mem (chosen .state) sum k
+
+abbrev μ-loop : tie.MeasureT-loop
+μ-loop choices mem₀ chosen₀ sum₀ count k₀ mem chosen sum k = count - k
+
+loop-holds : tie.Need-loop-holds Inv-loop μ-loop
+loop-holds c = record { count-is = refl; made = omega arith; lent = refl; sum-goes = refl; machine-goes = refl }
+
+mul-wide : tie.Need-mul-wide Inv-loop μ-loop
+mul-wide c = search needs
+
+shared-slice-read-wide : tie.Need-shared-slice-read-wide Inv-loop μ-loop
+shared-slice-read-wide c = search needs
+
+wide-requires : tie.Need-wide-requires Inv-loop μ-loop
+wide-requires c κs = search needs
+
+mul-wide-2 : tie.Need-mul-wide-2 Inv-loop μ-loop
+mul-wide-2 c = search needs
+
+add-wide : tie.Need-add-wide Inv-loop μ-loop
+add-wide c = search needs
+
+shared-slice-read-wide-2 : tie.Need-shared-slice-read-wide-2 Inv-loop μ-loop
+shared-slice-read-wide-2 c = search needs
+
+wide-requires-2 : tie.Need-wide-requires-2 Inv-loop μ-loop
+wide-requires-2 c κs = search needs
+
+offer-requires : tie.Need-offer-requires Inv-loop μ-loop
+offer-requires c κs = search needs
+
+add-requires : tie.Need-add-requires Inv-loop μ-loop
+add-requires c κs = search needs
+
+add-k : tie.Need-add-k Inv-loop μ-loop
+add-k c = search needs
+
+enum-known-offered : tie.Need-enum-known-offered Inv-loop μ-loop
+enum-known-offered c = search needs
+
+take-offered-requires : tie.Need-take-offered-requires Inv-loop μ-loop
+take-offered-requires c κs = search needs
+
+loop-less : tie.Need-loop-less Inv-loop μ-loop
+loop-less c = omega (arith, c .before .before .before .before .before .before .before .before .before .before .before .before .before .before .before .loop-test .taken)
+
+loop-again : tie.Need-loop-again Inv-loop μ-loop
+loop-again c =
+    let at-take = c .before .before in
+    let at-told = at-take .before .before .before in
+    let at-add = at-told .before .before in
+    let at-offer = at-add .before in
+    let at-line = at-offer .before .before in
+    let at-worker = at-line .before .before in
+    let in-loop = at-worker .before .before .before in
+    let inv = in-loop .before .loop .inv in
+    laws.again inv (in-loop .loop-test .taken)
+    (laws.taken-turn _ _ _ _ (at-worker .wide .ensures) (at-line .wide2 .ensures) _ (at-offer .offer .ensures) (Event.Started _) (at-told .offered .given .1) _ _ (at-take .take-offered .ensures))
+    (at-add .add .ensures) (at-take .take-offered .kept .1 .0)
+
+enum-known-offered-2 : tie.Need-enum-known-offered-2 Inv-loop μ-loop
+enum-known-offered-2 c = search needs
+
+take-offered-requires-2 : tie.Need-take-offered-requires-2 Inv-loop μ-loop
+take-offered-requires-2 c κs = search needs
+
+loop-less-2 : tie.Need-loop-less-2 Inv-loop μ-loop
+loop-less-2 c = omega (arith, c .before .before .before .before .before .before .before .before .before .before .before .before .before .before .before .loop-test .taken)
+
+loop-again-2 : tie.Need-loop-again-2 Inv-loop μ-loop
+loop-again-2 c =
+    let at-take = c .before .before in
+    let at-told = at-take .before .before .before in
+    let at-add = at-told .before .before in
+    let at-offer = at-add .before in
+    let at-line = at-offer .before .before in
+    let at-worker = at-line .before .before in
+    let in-loop = at-worker .before .before .before in
+    let inv = in-loop .before .loop .inv in
+    laws.again inv (in-loop .loop-test .taken)
+    (laws.taken-turn _ _ _ _ (at-worker .wide .ensures) (at-line .wide2 .ensures) _ (at-offer .offer .ensures) (Event.Finished _) (at-told .offered2 .given .1) _ _ (at-take .take-offered2 .ensures))
+    (at-add .add .ensures) (at-take .take-offered2 .kept .1 .0)
+
+enum-known-offered-3 : tie.Need-enum-known-offered-3 Inv-loop μ-loop
+enum-known-offered-3 c = search needs
+
+take-offered-requires-3 : tie.Need-take-offered-requires-3 Inv-loop μ-loop
+take-offered-requires-3 c κs = search needs
+
+loop-less-3 : tie.Need-loop-less-3 Inv-loop μ-loop
+loop-less-3 c = omega (arith, c .before .before .before .before .before .before .before .before .before .before .before .before .before .before .before .loop-test .taken)
+
+loop-again-3 : tie.Need-loop-again-3 Inv-loop μ-loop
+loop-again-3 c =
+    let at-take = c .before .before in
+    let at-told = at-take .before .before .before in
+    let at-add = at-told .before .before in
+    let at-offer = at-add .before in
+    let at-line = at-offer .before .before in
+    let at-worker = at-line .before .before in
+    let in-loop = at-worker .before .before .before in
+    let inv = in-loop .before .loop .inv in
+    laws.again inv (in-loop .loop-test .taken)
+    (laws.taken-turn _ _ _ _ (at-worker .wide .ensures) (at-line .wide2 .ensures) _ (at-offer .offer .ensures) (Event.Stopped _) (at-told .offered3 .given .1) _ _ (at-take .take-offered3 .ensures))
+    (at-add .add .ensures) (at-take .take-offered3 .kept .1 .0)
+
+enum-told : tie.Need-enum-told Inv-loop μ-loop
+enum-told c = search needs
+
+loop-less-4 : tie.Need-loop-less-4 Inv-loop μ-loop
+loop-less-4 c = omega (arith, c .before .before .before .before .before .before .before .before .before .before .loop-test .taken)
+
+loop-again-4 : tie.Need-loop-again-4 Inv-loop μ-loop
+loop-again-4 c =
+    let at-add = c .before .before in
+    let at-offer = at-add .before in
+    let at-line = at-offer .before .before in
+    let at-worker = at-line .before .before in
+    let in-loop = at-worker .before .before .before in
+    let inv = in-loop .before .loop .inv in
+    laws.again inv (in-loop .loop-test .taken)
+    (laws.refused-turn _ _ _ _ (at-worker .wide .ensures) (at-line .wide2 .ensures) _ (at-offer .offer .ensures) _ (c .enum-told .given .1))
+    (at-add .add .ensures) refl
+
+same-length : tie.Need-same-length Inv-loop μ-loop
+same-length c = search needs
+
+returns : tie.Need-returns Inv-loop μ-loop
+returns c = laws.at-end (c .before .loop .inv) (c .loop-test .left)
+
+pub follow-taken-spec : {M : Type 1} → statement M
+follow-taken-spec =
+    tie.close
+    (tie.spec
+    Inv-loop
+    μ-loop
+    loop-holds
+    mul-wide
+    shared-slice-read-wide
+    wide-requires
+    mul-wide-2
+    add-wide
+    shared-slice-read-wide-2
+    wide-requires-2
+    offer-requires
+    add-requires
+    add-k
+    enum-known-offered
+    take-offered-requires
+    loop-less
+    loop-again
+    enum-known-offered-2
+    take-offered-requires-2
+    loop-less-2
+    loop-again-2
+    enum-known-offered-3
+    take-offered-requires-3
+    loop-less-3
+    loop-again-3
+    enum-told
+    loop-less-4
+    loop-again-4
+    same-length
+    returns)
