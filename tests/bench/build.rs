@@ -1,10 +1,13 @@
 //! Links the archive that `rt staticlib whole_run` writes, and, where BENCH_BEFORE names an older
-//! one, that too, with its function under another name.
+//! one, that too, with its functions under other names.
 
 use std::env;
 use std::fs;
 use std::path::{Path, PathBuf};
 use std::process::Command;
+
+/// An older archive may have only the first of them.
+const EXPORTED: [&str; 3] = ["pipeline_run", "pipeline_run_offered", "pipeline_run_taken"];
 
 fn main() {
     let here = PathBuf::from(env::var_os("CARGO_MANIFEST_DIR").expect("cargo sets it"));
@@ -17,10 +20,10 @@ fn main() {
         let copy = folder.join("libwhole_run_before.a");
         fs::copy(&archive, &copy).expect("BENCH_BEFORE names an archive");
         let renamed = Command::new("objcopy")
-            .arg("--redefine-sym=pipeline_run=pipeline_run_before")
+            .args(EXPORTED.map(|name| format!("--redefine-sym={name}={name}_before")))
             .arg(&copy)
             .status();
-        assert!(renamed.is_ok_and(|status| status.success()), "objcopy renames the function");
+        assert!(renamed.is_ok_and(|status| status.success()), "objcopy renames the functions");
         link(&folder, "whole_run_before");
         println!("cargo:rustc-cfg=before");
     }

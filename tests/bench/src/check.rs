@@ -1,7 +1,7 @@
 //! Compares answers and measures nothing: those of the plain stepper with the worked cases of the
-//! rules, then those of the engine with the plain stepper's.
+//! rules, then those of the engine, in each of its ways, with the plain stepper's.
 
-use crate::engine;
+use crate::engine::{self, WholeRun};
 use crate::plain::{self, Answer, Choice, Run, Step};
 use crate::plans::{self, Chance, Plan, PARALLEL, SERIAL};
 
@@ -21,15 +21,34 @@ pub fn same_as_before(file: &[u8], workers: u16, choices: &[Choice], mem: &mut [
     }
 }
 
-/// Both sides make the same whole run, else it says which choice they first differ at.
+/// In each way the engine makes the whole run that the plain stepper makes, and leaves the same memory.
 pub fn same(file: &[u8], workers: u16, choices: &[Choice], mem: &mut [u16]) -> Outcome {
-    let opening = engine::run(file, workers, &[], mem);
+    let mut left: Option<Vec<u16>> = None;
+    for (way, whole_run) in engine::WAYS {
+        mem.fill(MARK);
+        same_answers(whole_run, file, workers, choices, mem)
+            .map_err(|why| format!("{way}: {why}"))?;
+        let expected = left.get_or_insert_with(|| mem.to_vec());
+        expect(expected == mem, &format!("{way} leave the memory that choices leave"))?;
+    }
+    Ok(())
+}
+
+/// Both sides make the same whole run, else it says which choice they first differ at.
+fn same_answers(
+    whole_run: WholeRun,
+    file: &[u8],
+    workers: u16,
+    choices: &[Choice],
+    mem: &mut [u16],
+) -> Outcome {
+    let opening = whole_run(file, workers, &[], mem);
     if opening != 0 {
         return Err(format!("the engine refuses the opening with {opening}"));
     }
     let mut agree = |many: usize| {
         let choices = &choices[..many];
-        engine::run(file, workers, choices, mem) == plain::run(file, workers, choices)
+        whole_run(file, workers, choices, mem) == plain::run(file, workers, choices)
     };
     if agree(choices.len()) {
         return Ok(());
@@ -361,10 +380,13 @@ fn refused_openings() -> Outcome {
 }
 
 fn refused(what: &str, number: u64, file: &[u8], workers: u16, lent: usize) -> Outcome {
-    let mut mem = vec![MARK; lent];
-    let got = engine::run(file, workers, &[[0, 0], [0, 0], [0, 1], [0, 2]], &mut mem);
-    expect(got == number, &format!("{what} gets {number} (got {got})"))?;
-    expect(mem.iter().all(|&x| x == MARK), &format!("{what} writes nothing"))
+    for (way, whole_run) in engine::WAYS {
+        let mut mem = vec![MARK; lent];
+        let got = whole_run(file, workers, &[[0, 0], [0, 0], [0, 1], [0, 2]], &mut mem);
+        expect(got == number, &format!("{way}: {what} gets {number} (got {got})"))?;
+        expect(mem.iter().all(|&x| x == MARK), &format!("{way}: {what} writes nothing"))?;
+    }
+    Ok(())
 }
 
 /// More may be lent, and what is beyond is untouched.

@@ -1,4 +1,4 @@
-//! The proved library's one function.
+//! The proved library's functions.
 
 use crate::plain::Choice;
 
@@ -11,8 +11,8 @@ pub type WholeRun = fn(&[u8], u16, &[Choice], &mut [u16]) -> u64;
 /// A safe function over an exported one.
 macro_rules! whole_run {
     ($name:ident, $exported:ident) => {
-        /// Opens the plan in the lent memory and makes every choice. Gives the checksum of all
-        /// answers, as `plain::run` does, or the number 1 to 9 of a refused opening.
+        /// Opens the plan in the lent memory and makes every choice, in one of the ways. Gives the
+        /// checksum of all answers, as `plain::run` does, or the number 1 to 9 of a refused opening.
         pub fn $name(file: &[u8], workers: u16, choices: &[Choice], mem: &mut [u16]) -> u64 {
             extern "C" {
                 // Nothing checks this declaration against the library's source.
@@ -44,11 +44,18 @@ macro_rules! whole_run {
 }
 
 whole_run!(run, pipeline_run);
+whole_run!(run_offered, pipeline_run_offered);
+whole_run!(run_taken, pipeline_run_taken);
+
+/// The ways to make a choice: at once; offered first and then made; or offered first, and the event that
+/// was offered taken. All give the same answers and leave the same memory.
+pub const WAYS: [(&str, WholeRun); 3] =
+    [("choices", run), ("offers and choices", run_offered), ("offers and takings", run_taken)];
 
 #[cfg(before)]
 whole_run!(run_before, pipeline_run_before);
 
-/// The same by an older archive, where one is linked too.
+/// Choices by an older archive, where one is linked too.
 #[cfg(before)]
 pub const BEFORE: Option<WholeRun> = Some(run_before);
 #[cfg(not(before))]

@@ -1,6 +1,7 @@
-//! How long the proved engine takes for a choice, beside a plain stepper of the same rules.
+//! How long the proved engine takes for a choice, beside a plain stepper of the same rules, and for an
+//! offer and its taking.
 //!
-//! `--check` compares the answers of the two and measures nothing. Answers that differ are a
+//! `--check` compares the answers of all of them and measures nothing. Answers that differ are a
 //! failure; a target that is not met is only printed, as times depend on the machine.
 
 mod cases;
@@ -14,25 +15,25 @@ mod timing;
 use std::env;
 use std::process::ExitCode;
 
+use engine::WholeRun;
 use report::Measured;
-use timing::{time, Times};
+use timing::time;
 
 const ROUNDS: usize = 21;
 
 /// Each round goes through all cases, so that a slow spell of the machine falls on all of them.
 fn measure<'a>(cases: &'a [cases::Case], mem: &mut [u16]) -> Vec<Measured<'a>> {
-    let new = |case| {
-        let [engine, before, plain] = [Times::default(), Times::default(), Times::default()];
-        Measured { case, engine, before, plain }
-    };
-    let mut measured: Vec<Measured> = cases.iter().map(new).collect();
+    let mut measured: Vec<Measured> = cases.iter().map(Measured::new).collect();
     for _ in 0..ROUNDS {
-        for Measured { case, engine, before, plain } in &mut measured {
-            time(case, engine, |file, workers, choices| engine::run(file, workers, choices, mem));
+        for Measured { case, engine, offered, taken, before, plain } in &mut measured {
+            let mut by = |whole_run: WholeRun, times| {
+                time(case, times, |file, workers, choices| whole_run(file, workers, choices, mem));
+            };
+            by(engine::run, engine);
+            by(engine::run_offered, offered);
+            by(engine::run_taken, taken);
             if let Some(run_before) = engine::BEFORE {
-                time(case, before, |file, workers, choices| {
-                    run_before(file, workers, choices, mem)
-                });
+                by(run_before, before);
             }
             time(case, plain, plain::run);
         }
@@ -68,6 +69,7 @@ fn run(check_only: bool) -> Result<(), String> {
     }
     let measured = measure(&cases, &mut mem);
     report::print_times(&measured);
+    report::print_offers(&measured);
     report::print_verdicts(&measured);
     Ok(())
 }

@@ -10,13 +10,37 @@ const MOST_DEFERRED_WIDE: f64 = 1.5;
 const MOST_DEFERRED_NARROW: f64 = 3.0;
 const MOST_DEFERRED_GROWTH: f64 = 2.5;
 const MOST_TO_BEFORE: f64 = 1.05;
+const MOST_OFFER: f64 = 1.0;
+const MOST_OFFER_AND_TAKING: f64 = 2.2;
 
 pub struct Measured<'a> {
     pub case: &'a Case,
+    /// The choices alone.
     pub engine: Times,
-    /// An older archive of the engine, where one was linked.
+    /// Each of them offered, and then made.
+    pub offered: Times,
+    /// Each of them offered, and what was offered taken.
+    pub taken: Times,
+    /// Choices by an older archive of the engine, where one was linked.
     pub before: Times,
     pub plain: Times,
+}
+
+impl<'a> Measured<'a> {
+    pub fn new(case: &'a Case) -> Measured<'a> {
+        let [engine, offered, taken, before, plain] = [(); 5].map(|()| Times::default());
+        Measured { case, engine, offered, taken, before, plain }
+    }
+
+    /// What an offer takes beside a choice.
+    fn offer_ratio(&self) -> f64 {
+        self.offered.ratio_to(&self.engine) - 1.0
+    }
+
+    /// What an offer and its taking take together, beside a choice.
+    fn taking_ratio(&self) -> f64 {
+        self.taken.ratio_to(&self.engine)
+    }
 }
 
 pub fn print_times(measured: &[Measured]) {
@@ -37,7 +61,7 @@ pub fn print_times(measured: &[Measured]) {
     );
     let before = if engine::BEFORE.is_some() { "--:|--:|" } else { "" };
     println!("|---|---|--:|---|--:|--:|--:|--:|--:|--:|--:|--:|{before}");
-    for Measured { case, engine, before, plain } in measured {
+    for Measured { case, engine, before, plain, .. } in measured {
         let Kind { deferral, shape, tokens, order } = case.kind;
         print!(
             "| {} | {} | {tokens} | {} | {} | {:.2} | {:.2} | {:.2} | {:.2} | {:.2} | {:.0} % | {:.0} % |",
@@ -60,6 +84,38 @@ pub fn print_times(measured: &[Measured]) {
     }
 }
 
+pub fn print_offers(measured: &[Measured]) {
+    println!(
+        "\nThe same runs, each choice offered first: an offer is by how much a run with offers and \
+         choices is longer than one with choices alone; an offer and its taking are a run in which what \
+         is offered is taken, and nothing is called where the offer is a refusal. Lowest, of an offer: \
+         the difference of the two lowest.\n"
+    );
+    println!(
+        "| deferral | pipes and lines | N | order | choice, median | choice, lowest \
+         | offer, median | offer, lowest | offer and taking, median | offer and taking, lowest \
+         | offer / choice | offer and taking / choice |"
+    );
+    println!("|---|---|--:|---|--:|--:|--:|--:|--:|--:|--:|--:|");
+    for m in measured {
+        let Kind { deferral, shape, tokens, order } = m.case.kind;
+        println!(
+            "| {} | {} | {tokens} | {} | {:.2} | {:.2} | {:.2} | {:.2} | {:.2} | {:.2} | {:.2} | {:.2} |",
+            deferral.name(),
+            shape.name(),
+            order.name(),
+            m.engine.median(),
+            m.engine.lowest(),
+            m.offered.more_than(&m.engine),
+            m.offered.lowest() - m.engine.lowest(),
+            m.taken.median(),
+            m.taken.lowest(),
+            m.offer_ratio(),
+            m.taking_ratio(),
+        );
+    }
+}
+
 fn print_verdict(target: &str, kind: Kind, most: f64, found: f64) {
     let verdict = if found <= most { "met" } else { "not met" };
     let (shape, order) = (kind.shape.name(), kind.order.name());
@@ -78,6 +134,26 @@ pub fn print_verdicts(measured: &[Measured]) {
     let order = Order::OneWorker;
     let none = Kind { deferral: Deferral::None, shape: Shape::Narrow, tokens: LARGE, order };
     print_narrow(none, &find);
+    for order in [Order::Random, Order::OneWorker, Order::StopFirst, Order::PastEnd] {
+        print_taking(Kind { shape: Shape::Wide, order, ..none }, measured);
+    }
+    print_taking(none, measured);
+}
+
+/// Over all cases of one shape and order.
+fn print_taking(group: Kind, measured: &[Measured]) {
+    let highest = |ratio: fn(&Measured) -> f64| {
+        let of_group =
+            |m: &&Measured| (m.case.kind.shape, m.case.kind.order) == (group.shape, group.order);
+        measured.iter().filter(of_group).map(ratio).fold(0.0, f64::max)
+    };
+    print_verdict("an offer / a choice, highest", group, MOST_OFFER, highest(|m| m.offer_ratio()));
+    print_verdict(
+        "an offer and its taking / a choice, highest",
+        group,
+        MOST_OFFER_AND_TAKING,
+        highest(|m| m.taking_ratio()),
+    );
 }
 
 fn print_wide<'a>(none: Kind, find: &impl Fn(Kind) -> &'a Measured<'a>) {

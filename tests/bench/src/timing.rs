@@ -30,6 +30,11 @@ impl Times {
         median(self.0.iter().zip(&other.0).map(|(mine, its)| mine / its))
     }
 
+    /// The median of the rounds' differences.
+    pub fn more_than(&self, other: &Times) -> f64 {
+        median(self.0.iter().zip(&other.0).map(|(mine, its)| mine - its))
+    }
+
     pub fn lowest(&self) -> f64 {
         self.0.iter().copied().fold(f64::INFINITY, f64::min)
     }
