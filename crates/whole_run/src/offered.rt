@@ -30,8 +30,8 @@ pub(crate) fn follow_offered(state: State, choices: &[u8], mem: &mut [u16]) -> u
         let before = chosen.state;
         let worker = wide(choices[2 * k]);
         let line = wide(choices[2 * k + 1]);
-        let offered = engine::offer(before, mem, Worker(worker), Line(line));
-        sum = checksum::add(sum, offered);
+        let answer = engine::offer(before, mem, Worker(worker), Line(line));
+        sum = checksum::add(sum, answer);
         chosen = engine::choose(before, mem, Worker(worker), Line(line));
         k += 1;
     }
