@@ -1,11 +1,12 @@
 -- Offer, then take (02, 2.3), over any source of tokens.
 use mathlib.Core.Bool.{Bool, true, false}
 use Prim.Native.Nat.{ℕ}
-use Rattle.rules.specs.Lists.{must, mustNot}
+use Rattle.rules.specs.Lists.{if, must, mustNot}
 use Rattle.rules.specs.Sources.{Source}
-use Rattle.rules.specs.RunState.{Machine}
-use Rattle.rules.specs.Choices.{Answer, Started, Finished, Stopped, Refused, Choice, Chosen, refuse, choose, chooseBy}
+use Rattle.rules.specs.RunState.{Machine, slotOf}
+use Rattle.rules.specs.Choices.{Answer, Started, Finished, Stopped, Refused, Choice, Chosen, refuse, start, choose, chooseBy}
 use Rattle.vocabulary.specs.Events.{startedKind, finishedKind, stoppedKind, eventRecord, sameRecord}
+use Rattle.vocabulary.specs.declared.Slot.{Slot}
 use Rattle.vocabulary.specs.declared.event.Event.{Event}
 use Rattle.vocabulary.specs.declared.event.EventRecord.{EventRecord}
 
@@ -43,6 +44,15 @@ onlyIf m r n c =
     c)
 
 module _ {X : Type 0} (S : Source X) where
+  -- what the slot of a line and the source say that it does next, whatever the other numbers are and the checks say: a running line
+  -- finishes, a waiting one starts
+  unfoldable pub shown : Machine X → ℕ → ℕ → Answer
+  shown m w l =
+      let s : Slot = slotOf m l in
+      if (s .running)
+      (Finished l (s .pipe .0) (s .token .0) (s .place .0) (s .worker .0))
+      (start S m w l .answer)
+
   -- "the offer returns the event or refusal and changes nothing"
   abbrev pub offer : Machine X → ℕ → ℕ → Answer
   offer m w l = choose S m w l .answer

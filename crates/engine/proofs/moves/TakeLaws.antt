@@ -1,8 +1,13 @@
 -- The taking of a record, case by case, as the code meets it.
 use mathlib.Core.Path.{_≡_, refl, sym, ap, _∙_}
 use mathlib.Core.Bool.{Bool, true, false}
+use mathlib.Core.List.{List}
 use Prim.Native.Nat.{ℕ}
 use native.Mathlib.Omega.{arith}
+use Rattle.vocabulary.specs.declared.Line.{Line}
+use Rattle.vocabulary.specs.declared.Worker.{Worker}
+use Rattle.vocabulary.specs.declared.Slot.{Slot}
+use Rattle.vocabulary.specs.declared.Slots.{Slots}
 use Rattle.vocabulary.specs.declared.answer.Answer.{Answer}
 use Rattle.vocabulary.specs.declared.event.Event.{Event}
 use Rattle.vocabulary.specs.declared.event.EventRecord.{EventRecord}
@@ -10,17 +15,21 @@ use Rattle.vocabulary.specs.declared.refusal.Refusal.{Refusal}
 use Rattle.vocabulary.specs.Refusals.{numberOf}
 use Rattle.vocabulary.specs.Events.{eventRecord, sameRecord}
 use Rattle.rules.specs.Lists.{must}
-use Rattle.rules.specs.RunState.{Machine}
+use Rattle.rules.specs.RunState.{Machine, slotAt}
 use Rattle.rules.specs.Choices as rules
-use Rattle.rules.specs.Choices.{refuse, choose}
+use Rattle.rules.specs.Choices.{refuse, start, choose}
 use Rattle.rules.specs.Answers.{answerOf}
-use Rattle.rules.specs.Offers.{isRefused, recordOf, eventOf, takeRecord, takeOffered}
+use Rattle.rules.specs.Offers.{isRefused, recordOf, eventOf, shown, takeRecord, takeOffered}
 use Rattle.rules.proofs.choices.Outcomes.{refused-unchanged}
 use Rattle.rules.proofs.choices.Offered.{record-is, event-accepted, only-refused, only-other, only-same}
-use Rattle.rules.proofs.lists.Tests.{holds, fails, see}
+use Rattle.rules.proofs.lists.Tests.{never, holds, fails, see}
 use Rattle.tables.specs.State as tables
 use Rattle.tables.specs.Calls.{memorySource}
+use Rattle.state.specs.declared.State.{State}
+use Rattle.state.specs.declared.Figures.{Figures}
+use Rattle.state.specs.Machines.{slotsOf, figuresOf, machineOf, whole}
 use Rattle.engine.specs.declared.turn.Comparison.{Comparison}
+use Rattle.engine.specs.Moves.{finishedAnswer}
 use Rattle.engine.specs.Taking.{comparedEvent, comparedAnswer, ownOr}
 
 -- what the comparison with an event tells
@@ -64,22 +73,30 @@ module _ (m : Machine tables.State) (r : EventRecord) (other : Refusal) where
         let x = was-other (sameRecord (eventRecord e) r) other why c in
         ap (λ w. refuse m (numberOf w)) (x .1) ∙ sym (only-other m r (numberOf other) chosen accepted (compared (x .0)))
 
+  -- an event that differs is refused with the other number
+  other-is : (a : Answer) (why : Refusal) → isRefused (answerOf a) ≡ false → comparedAnswer a r other ≡ Comparison.Refused why → why ≡ other
+  unfolding answerOf
+  other-is (Answer.Started s) why ok c = was-other (sameRecord (eventRecord (Event.Started s)) r) other why c .1
+  other-is (Answer.Finished s) why ok c = was-other (sameRecord (eventRecord (Event.Finished s)) r) other why c .1
+  other-is (Answer.Stopped s) why ok c = was-other (sameRecord (eventRecord (Event.Stopped s)) r) other why c .1
+  other-is (Answer.Refused v) why ok c = absurd (never ok)
+
   -- by its own refusal
-  pub own-refusal : (why : Refusal) → rules.Refused (numberOf why) ≡ chosen .answer → refuse m (numberOf why) ≡ taken
+  own-refusal : (why : Refusal) → rules.Refused (numberOf why) ≡ chosen .answer → refuse m (numberOf why) ≡ taken
   own-refusal why told =
       let unchanged = refused-unchanged memorySource m (r .worker) (r .line) (numberOf why) (sym told) in
       let chosen-is : refuse m (numberOf why) ≡ chosen = λ i. record { answer = told i; machine = sym unchanged i } in
       chosen-is ∙ sym (only-refused m r (numberOf other) chosen (ap isRefused (sym told)))
 
   -- the choice's answer beside the record
-  pub answer-same : (a : Answer) {c : Comparison} → answerOf a ≡ chosen .answer → c ≡ comparedAnswer a r other → c ≡ Comparison.Same → chosen ≡ taken
+  answer-same : (a : Answer) {c : Comparison} → answerOf a ≡ chosen .answer → c ≡ comparedAnswer a r other → c ≡ Comparison.Same → chosen ≡ taken
   unfolding answerOf
   answer-same (Answer.Started s) told c-is c = event-same (Event.Started s) told (sym c-is ∙ c)
   answer-same (Answer.Finished s) told c-is c = event-same (Event.Finished s) told (sym c-is ∙ c)
   answer-same (Answer.Stopped s) told c-is c = event-same (Event.Stopped s) told (sym c-is ∙ c)
   answer-same (Answer.Refused why) told c-is c = let z : _≡_ {A = ℕ} 0 1 = cc (sym c-is ∙ c) in absurd (omega arith)
 
-  pub answer-refused : (a : Answer) {c : Comparison} {why : Refusal} → answerOf a ≡ chosen .answer → c ≡ comparedAnswer a r other → c ≡ Comparison.Refused why →
+  answer-refused : (a : Answer) {c : Comparison} {why : Refusal} → answerOf a ≡ chosen .answer → c ≡ comparedAnswer a r other → c ≡ Comparison.Refused why →
       refuse m (numberOf why) ≡ taken
   unfolding answerOf
   answer-refused (Answer.Started s) told c-is c = event-other (Event.Started s) told (sym c-is ∙ c)
@@ -87,29 +104,43 @@ module _ (m : Machine tables.State) (r : EventRecord) (other : Refusal) where
   answer-refused (Answer.Stopped s) told c-is c = event-other (Event.Stopped s) told (sym c-is ∙ c)
   answer-refused (Answer.Refused w) {why = why} told c-is c = let w-is : w ≡ why = cc (sym c-is ∙ c) in rw w-is at (own-refusal w told)
 
-  -- the event that the choice gives if it is accepted, beside the record
-  module _ (e : Event) (tells : isRefused (chosen .answer) ≡ false → eventOf e ≡ chosen .answer) {c : Comparison} (c-is : c ≡ comparedEvent e r other) where
-    pub only-event : c ≡ Comparison.Same → chosen ≡ taken
-    only-event same = elim (see (isRefused (chosen .answer))) [
+  -- what the choice gives if it is accepted, beside the record
+  module _ (shows : Answer) (tells : isRefused (chosen .answer) ≡ false → answerOf shows ≡ chosen .answer) {c : Comparison} (c-is : c ≡ comparedAnswer shows r other) where
+    pub shown-same : c ≡ Comparison.Same → chosen ≡ taken
+    shown-same same = elim (see (isRefused (chosen .answer))) [
       | holds turned ↦ sym (only-refused m r (numberOf other) chosen turned)
-      | fails ok ↦ event-same e (tells ok) (sym c-is ∙ same)
+      | fails ok ↦ answer-same shows (tells ok) c-is same
     ]
 
     -- where it is another: the choice's own refusal, or this one
     module _ {w : Refusal} (differs : c ≡ Comparison.Refused w) where
       differing : isRefused (chosen .answer) ≡ false → refuse m (numberOf other) ≡ taken
       differing ok =
-          let x = was-other (sameRecord (eventRecord e) r) other w (sym c-is ∙ differs) in
-          ap (λ v. refuse m (numberOf v)) (sym (x .1)) ∙ event-other e (tells ok) (sym c-is ∙ differs)
+          ap (λ v. refuse m (numberOf v)) (sym (other-is shows w (ap isRefused (tells ok) ∙ ok) (sym c-is ∙ differs))) ∙ answer-refused shows (tells ok) c-is differs
 
-      pub another-event : (a : Answer) {why : Refusal} → answerOf a ≡ chosen .answer → why ≡ ownOr a other → refuse m (numberOf why) ≡ taken
+      pub shown-other : (a : Answer) {why : Refusal} → answerOf a ≡ chosen .answer → why ≡ ownOr a other → refuse m (numberOf why) ≡ taken
       unfolding answerOf
-      another-event (Answer.Started s) told why-is = ap (λ v. refuse m (numberOf v)) why-is ∙ differing (ap isRefused (sym told))
-      another-event (Answer.Finished s) told why-is = ap (λ v. refuse m (numberOf v)) why-is ∙ differing (ap isRefused (sym told))
-      another-event (Answer.Stopped s) told why-is = ap (λ v. refuse m (numberOf v)) why-is ∙ differing (ap isRefused (sym told))
-      another-event (Answer.Refused v) told why-is = ap (λ v. refuse m (numberOf v)) why-is ∙ own-refusal v told
+      shown-other (Answer.Started s) told why-is = ap (λ v. refuse m (numberOf v)) why-is ∙ differing (ap isRefused (sym told))
+      shown-other (Answer.Finished s) told why-is = ap (λ v. refuse m (numberOf v)) why-is ∙ differing (ap isRefused (sym told))
+      shown-other (Answer.Stopped s) told why-is = ap (λ v. refuse m (numberOf v)) why-is ∙ differing (ap isRefused (sym told))
+      shown-other (Answer.Refused v) told why-is = ap (λ v. refuse m (numberOf v)) why-is ∙ own-refusal v told
 
 -- the taking of an event is that of its record
 pub takes-event : (m : Machine tables.State) (e : Event) {r : EventRecord} {x : rules.Chosen tables.State} → r ≡ eventRecord e →
     x ≡ takeRecord memorySource m r 19 → x ≡ takeOffered memorySource m e
 takes-event m e r-is h = rw r-is at h
+
+-- what the slot of a line and the tables say, by the code's parts of a state
+module _ (s : State) (worker : Worker) (line : Line) (mem : List ℕ) {slot : Slot} (slot-is : slot ≡ slotAt (slotsOf s) (line .0)) (a : Answer) where
+  pub shown-finish : slot .running ≡ true → a ≡ finishedAnswer line slot → answerOf a ≡ shown memorySource (machineOf s mem) (worker .0) (line .0)
+  unfolding shown answerOf machineOf
+  shown-finish runs a-is = rw (a-is, ← slot-is, runs)
+
+  pub shown-start : {f : Figures} → slot .running ≡ false → f ≡ figuresOf s →
+      ((counters : List ℕ) (slots : Slots) → slotAt slots (line .0) ≡ slot →
+      answerOf a ≡ start memorySource (machineOf (whole f counters slots) mem) (worker .0) (line .0) .answer) →
+      answerOf a ≡ shown memorySource (machineOf s mem) (worker .0) (line .0)
+  unfolding shown machineOf
+  shown-start waits f-is would =
+      let here = would (s .counters) (slotsOf s) (sym slot-is) in
+      rw (← slot-is, waits) (rw f-is at here)

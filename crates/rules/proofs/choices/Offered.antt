@@ -1,8 +1,9 @@
 -- An offer, and the taking of what was offered: together the choice.
 use mathlib.Core.Path.{_≡_, refl, sym, ap, subst, _∙_}
 use mathlib.Core.Bool.{Bool, true, false}
-use Prim.Native.Nat.{ℕ}
+use Prim.Native.Nat.{ℕ, _<_}
 use borrow.Author.Tests.{eq-eqb, eqb-true}
+use native.Mathlib.Omega.{arith}
 use lib.Dec.{eqb}
 use Rattle.vocabulary.specs.declared.Slot.{Slot}
 use Rattle.vocabulary.specs.declared.event.Event.{Event}
@@ -13,10 +14,11 @@ use Rattle.rules.specs.Sources.{Source, Taken, Spoiled, Nothing, Took}
 use Rattle.rules.specs.RunState.{Machine, slotOf}
 use Rattle.rules.specs.Choices.{Answer, Started, Finished, Stopped, Refused, Chosen, refuse, choose, chooseBy}
 use Rattle.rules.specs.WholeRuns.{Accepted}
-use Rattle.rules.specs.Offers.{isRefused, recordOf, eventOf, named, onlyIf, takeOffered}
+use Rattle.rules.specs.Offers.{isRefused, recordOf, eventOf, named, onlyIf, shown, takeOffered}
 use Rattle.rules.proofs.lists.Tests.{by-test, never, holds, fails, see}
-use Rattle.rules.proofs.choices.Accepting.{accepted-own}
-use Rattle.rules.proofs.choices.Outcomes.{enterEffect, effect, by-effect, refused-unchanged, accepted-choice}
+use Rattle.rules.proofs.choices.SoundMachines.{lines-most}
+use Rattle.rules.proofs.choices.Accepting.{accepted-sound, accepted-line, accepted-worker, accepted-own, accepted-idle, starts-too}
+use Rattle.rules.proofs.choices.Outcomes.{enterEffect, effect, releases, finishes, by-effect, refused-unchanged, accepted-choice}
 
 -- a record agrees with itself in every field, and two that agree are one
 pub same-itself : (r : EventRecord) → sameRecord r r ≡ true
@@ -83,6 +85,28 @@ module _ {X : Type 0} (S : Source X) (m : Machine X) (w l : ℕ) where
   names-choice ok =
       let answer-is : choose S m w l .answer ≡ effect S m w l (slotOf m l) .answer = ap (λ c. c .answer) (accepted-choice S m w l ok .1) in
       subst Names (sym answer-is) (effect-names (accepted-own S m w l ok) (subst Accepted answer-is ok))
+
+-- an accepted choice gives what its line's slot and the source say
+module _ {X : Type 0} (S : Source X) (m : Machine X) (w l : ℕ) where
+  finish-shown : slotOf m l .running ≡ true → effect S m w l (slotOf m l) .answer ≡
+      Finished l (slotOf m l .pipe .0) (slotOf m l .token .0) (slotOf m l .place .0) (slotOf m l .worker .0)
+  finish-shown r = by-test (eqb (slotOf m l .pipe .0) 0)
+      (λ e. ap (λ x. x .answer) (releases S m w l (slotOf m l) r e))
+      (λ e. ap (λ x. x .answer) (finishes S m w l (slotOf m l) r e))
+
+  pub shown-accepted : isRefused (choose S m w l .answer) ≡ false → choose S m w l .answer ≡ shown S m w l
+  unfolding shown
+  shown-accepted taken =
+      let ok : Accepted (choose S m w l .answer) = is-accepted (choose S m w l .answer) taken in
+      by-test (slotOf m l .running)
+      (λ r. rw r (ap (λ c. c .answer) (accepted-choice S m w l ok .1) ∙ finish-shown r))
+      (λ r. rw r (ap (λ c. c .answer) (starts-too S m w l ok r w (accepted-worker S m w l ok) (accepted-idle S m w l ok r))))
+
+  -- and its line is one of 32
+  pub line-accepted : isRefused (choose S m w l .answer) ≡ false → l < 32
+  line-accepted taken =
+      let ok : Accepted (choose S m w l .answer) = is-accepted (choose S m w l .answer) taken in
+      omega (arith, accepted-line S m w l ok, lines-most S m (accepted-sound S m w l ok))
 
 -- what is made only by its event: its own refusal, another event, the event
 module _ {X : Type 0} (m : Machine X) (r : EventRecord) (n : ℕ) (c : Chosen X) where
