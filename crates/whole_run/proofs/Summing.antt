@@ -8,13 +8,9 @@ use Rattle.rules.specs.Answers.{answerOf}
 use Rattle.vocabulary.specs.Refusals.{numberOf}
 use Rattle.rules.specs.Choices as rules
 use Rattle.rules.specs.Choices.{choicesIn, choose, answers, follow}
-use Rattle.rules.specs.Offers.{eventOf, offer, takeOffered}
-use Rattle.rules.proofs.choices.Offered.{taken-as-chosen}
-use Rattle.rules.proofs.choices.Outcomes.{refused-unchanged}
 use Rattle.vocabulary.specs.declared.answer.Step.{Step}
 use Rattle.vocabulary.specs.declared.answer.Stop.{Stop}
 use Rattle.vocabulary.specs.declared.answer.Answer.{Answer}
-use Rattle.vocabulary.specs.declared.event.Event.{Event}
 use Rattle.vocabulary.specs.declared.refusal.Refusal.{Refusal}
 use Rattle.tables.specs.State as tables
 use Rattle.tables.specs.Calls.{memorySource}
@@ -47,21 +43,9 @@ module _ {a : Answer} {v : ℕ} where
   unfolding valueOf answerOf
   value-refused e n-is h = rw (e, h, n-is)
 
--- the answer that gives an event
-abbrev pub giving : Event → Answer
-giving (Event.Started s) = Answer.Started s
-giving (Event.Finished s) = Answer.Finished s
-giving (Event.Stopped s) = Answer.Stopped s
-
-given-is : (e : Event) → answerOf (giving e) ≡ eventOf e
-unfolding answerOf
-given-is (Event.Started s) = refl
-given-is (Event.Finished s) = refl
-given-is (Event.Stopped s) = refl
-
 module _ (s : State) (m : List ℕ) (bytes : List ℕ) (k : ℕ) where
   -- choice k, made
-  abbrev chosen-there : rules.Chosen tables.State
+  abbrev pub chosen-there : rules.Chosen tables.State
   chosen-there = choose memorySource (machineOf s m) (getD bytes (2 * k) 0) (getD bytes (2 * k + 1) 0)
 
   -- it answers this, and leaves this state and memory
@@ -69,38 +53,14 @@ module _ (s : State) (m : List ℕ) (bytes : List ℕ) (k : ℕ) where
     pub answers-so : answerOf a ≡ chosen-there .answer
     pub leaves : machineOf s′ m′ ≡ chosen-there .machine
 
-  -- by calls with the worker and the line of choice k:
+  -- by a call with the worker and the line of choice k
   module _ {w l : ℕ} (w-is : w ≡ getD bytes (2 * k) 0) (l-is : l ≡ getD bytes (2 * k + 1) 0) where
-    chosen-is : choose memorySource (machineOf s m) w l ≡ chosen-there
+    pub chosen-is : choose memorySource (machineOf s m) w l ≡ chosen-there
     chosen-is = rw (w-is, l-is)
 
-    -- `choose` alone,
     pub chosen-turn : (r : Chosen) (m′ : List ℕ) → chosenOf r m′ ≡ choose memorySource (machineOf s m) w l → Turned (r .answer) (r .state) m′
     unfolding chosenOf
     chosen-turn r m′ e = record { answers-so = ap (λ c. c .answer) (e ∙ chosen-is); leaves = ap (λ c. c .machine) (e ∙ chosen-is) }
-
-    -- or `offer` first
-    module _ (a : Answer) (offers : answerOf a ≡ offer memorySource (machineOf s m) w l) where
-      offered-is : answerOf a ≡ chosen-there .answer
-      offered-is = offers ∙ ap (λ c. c .answer) chosen-is
-
-      -- and then `choose`,
-      pub offered-turn : (r : Chosen) (m′ : List ℕ) → chosenOf r m′ ≡ choose memorySource (machineOf s m) w l → Turned a (r .state) m′
-      offered-turn r m′ e = record { answers-so = offered-is; leaves = chosen-turn r m′ e .leaves }
-
-      -- or, of an event, `take_offered`,
-      pub taken-turn : (e : Event) → a ≡ giving e → (r : Chosen) (m′ : List ℕ) → chosenOf r m′ ≡ takeOffered memorySource (machineOf s m) e →
-          Turned a (r .state) m′
-      taken-turn e told r m′ takes =
-          offered-turn r m′ (takes ∙ taken-as-chosen memorySource (machineOf s m) w l e (sym offers ∙ ap answerOf told ∙ given-is e))
-
-      -- or, of a refusal, nothing
-      pub refused-turn : (why : Refusal) → a ≡ Answer.Refused why → Turned a s m
-      unfolding answerOf
-      refused-turn why told = record {
-        answers-so = offered-is;
-        leaves = sym (refused-unchanged memorySource (machineOf s m) w l (numberOf why) (sym offers ∙ ap answerOf told)) ∙ ap (λ c. c .machine) chosen-is;
-      }
 
 -- the choices of the bytes, some of which are made: the sum and the machine go on as those at the start do
 module _ (bytes m₀ : List ℕ) (s₀ : State) (sum₀ count : ℕ) where

@@ -55,7 +55,7 @@ fn value(answer: Answer) -> u64
 }
 
 // The checksum with one more answer.
-pub(crate) fn add(sum: u64, answer: Answer) -> u64
+pub fn add(sum: u64, answer: Answer) -> u64
     ensures { λ r. ⌜ r ≡ mixed sum (valueOf (answerOf answer)) ⌝ }
 {
     let sum = sum % MODULUS;

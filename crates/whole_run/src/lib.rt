@@ -1,6 +1,7 @@
 // A whole run in one call, for programs in other languages: tests/bench/ times it.
 mod checksum;
-mod offered;
+
+pub use checksum::add;
 
 ghost use mathlib.Core.Path.{_≡_};
 ghost use Rattle.rules.specs.Choices.{choicesIn, answers, follow as followed};
@@ -60,45 +61,5 @@ pub extern "C" fn pipeline_run(file: &[u8], workers: u16, choices: &[u8], mem: &
     match answer {
         Opening::Refused(why) => checksum::wide(why.number()),
         Opening::Accepted => follow(state, choices, mem),
-    }
-}
-
-// The same, and each choice is offered first: the checksum is that of the offers' answers.
-#[no_mangle]
-pub extern "C" fn pipeline_run_offered(
-    file: &[u8],
-    workers: u16,
-    choices: &[u8],
-    mem: &mut [u16],
-) -> u64
-    ensures answer { λ r. ⌜ r ≡ runOf (now (file .entry)) workers (now (choices .entry)) (now (mem .entry)) .0 ⌝ }
-    ensures memory { λ _. ⌜ now (mem .exit) ≡ runOf (now (file .entry)) workers (now (choices .entry)) (now (mem .entry)) .1 ⌝ }
-{
-    let opened = opening::open(file, workers, mem);
-    let answer = opened.answer;
-    let state = opened.state;
-    match answer {
-        Opening::Refused(why) => checksum::wide(why.number()),
-        Opening::Accepted => offered::follow_offered(state, choices, mem),
-    }
-}
-
-// The same, and an event that is offered is then taken.
-#[no_mangle]
-pub extern "C" fn pipeline_run_taken(
-    file: &[u8],
-    workers: u16,
-    choices: &[u8],
-    mem: &mut [u16],
-) -> u64
-    ensures answer { λ r. ⌜ r ≡ runOf (now (file .entry)) workers (now (choices .entry)) (now (mem .entry)) .0 ⌝ }
-    ensures memory { λ _. ⌜ now (mem .exit) ≡ runOf (now (file .entry)) workers (now (choices .entry)) (now (mem .entry)) .1 ⌝ }
-{
-    let opened = opening::open(file, workers, mem);
-    let answer = opened.answer;
-    let state = opened.state;
-    match answer {
-        Opening::Refused(why) => checksum::wide(why.number()),
-        Opening::Accepted => offered::follow_taken(state, choices, mem),
     }
 }

@@ -1,11 +1,12 @@
--- `whole_run::offered::follow_offered` meets its contract.
+-- `offered_run::offered::follow_offered` meets its contract.
 use mathlib.Core.Path.{_≡_, refl}
 use native.Mathlib.Omega.{arith}
 use Prim.Native.Nat.{_-_}
 use Rattle.whole_run.proofs.Summing as laws
+use Rattle.offered_run.proofs.Offering as offering
 use borrow.Author.Needs.{needs}
-use Rattle.whole_run.proofs.offered.follow_offered.Statement.{statement}
-use Rattle.whole_run.proofs.offered.follow_offered.Tie as tie
+use Rattle.offered_run.proofs.offered.follow_offered.Statement.{statement}
+use Rattle.offered_run.proofs.offered.follow_offered.Tie as tie
 
 abbrev Inv-loop : tie.InvT-loop
 Inv-loop choices mem₀ chosen₀ sum₀ count k₀ mem chosen sum k = laws.GoesOn choices mem₀ (chosen₀ .state) sum₀ count mem (chosen .state) sum k
@@ -62,7 +63,7 @@ loop-again c =
     let in-loop = at-worker .before .before .before in
     let inv = in-loop .before .loop .inv in
     laws.again inv (in-loop .loop-test .taken)
-    (laws.offered-turn _ _ _ _ (at-worker .wide .ensures) (at-line .wide2 .ensures) _ (at-offer .offer .ensures) _ _ (at-choose .choose .ensures))
+    (offering.offered-turn _ _ _ _ (at-worker .wide .ensures) (at-line .wide2 .ensures) _ (at-offer .offer .ensures) _ _ (at-choose .choose .ensures))
     (at-add .add .ensures) (at-choose .choose .kept .1 .0)
 
 same-length : tie.Need-same-length Inv-loop μ-loop

@@ -1,8 +1,8 @@
--- `whole_run::pipeline_run_offered` meets its contract.
+-- `offered_run::pipeline_run_taken` meets its contract.
 use borrow.Author.Needs.{needs}
 use Rattle.whole_run.proofs.Summing as laws
-use Rattle.whole_run.proofs.pipeline_run_offered.Statement.{statement}
-use Rattle.whole_run.proofs.pipeline_run_offered.Tie as tie
+use Rattle.offered_run.proofs.pipeline_run_taken.Statement.{statement}
+use Rattle.offered_run.proofs.pipeline_run_taken.Tie as tie
 
 open-requires : tie.Need-open-requires
 open-requires c κs = search needs
@@ -13,14 +13,14 @@ enum-known-answer c = search needs
 number-requires : tie.Need-number-requires
 number-requires c κs = search needs
 
-wide-requires : tie.Need-wide-requires
-wide-requires c κs = search needs
+long-requires : tie.Need-long-requires
+long-requires c κs = search needs
 
 enum-told : tie.Need-enum-told
 enum-told c = search needs
 
-follow-offered-requires : tie.Need-follow-offered-requires
-follow-offered-requires c κs = search needs
+follow-taken-requires : tie.Need-follow-taken-requires
+follow-taken-requires c κs = search needs
 
 same-length : tie.Need-same-length
 same-length c = search needs
@@ -30,7 +30,7 @@ returns c =
     let after-answer = c .before .before .before in
     let after-open = after-answer .before .before .before .before .before in
     laws.refused-run _ _ _ _ (after-open .«open» .ensures .0) (after-open .«open» .ensures .1) (after-answer .answer .given .1) (c .before .number .ensures)
-    (c .wide .ensures .0)
+    (c .long .ensures)
 
 same-length-2 : tie.Need-same-length-2
 same-length-2 c = search needs
@@ -41,18 +41,18 @@ returns-2 c =
     let after-told = after-follow .before .before in
     let after-open = after-told .before .before .before .before .before in
     laws.accepted-run _ _ _ _ (after-open .«open» .ensures .0) (after-open .«open» .ensures .1) (after-told .enum-told .given .1)
-    (after-follow .follow-offered .ensures .0) (after-follow .follow-offered .ensures .1)
+    (after-follow .follow-taken .ensures .0) (after-follow .follow-taken .ensures .1)
 
-pub pipeline-run-offered-spec : {M : Type 1} → statement M
-pipeline-run-offered-spec =
+pub pipeline-run-taken-spec : {M : Type 1} → statement M
+pipeline-run-taken-spec =
     tie.close
     (tie.spec
     open-requires
     enum-known-answer
     number-requires
-    wide-requires
+    long-requires
     enum-told
-    follow-offered-requires
+    follow-taken-requires
     same-length
     returns
     same-length-2

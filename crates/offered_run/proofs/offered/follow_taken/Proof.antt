@@ -1,12 +1,13 @@
--- `whole_run::offered::follow_taken` meets its contract.
+-- `offered_run::offered::follow_taken` meets its contract.
 use mathlib.Core.Path.{_≡_, refl}
 use native.Mathlib.Omega.{arith}
 use Prim.Native.Nat.{_-_}
 use Rattle.vocabulary.specs.declared.event.Event.{Event}
 use Rattle.whole_run.proofs.Summing as laws
+use Rattle.offered_run.proofs.Offering as offering
 use borrow.Author.Needs.{needs}
-use Rattle.whole_run.proofs.offered.follow_taken.Statement.{statement}
-use Rattle.whole_run.proofs.offered.follow_taken.Tie as tie
+use Rattle.offered_run.proofs.offered.follow_taken.Statement.{statement}
+use Rattle.offered_run.proofs.offered.follow_taken.Tie as tie
 
 abbrev Inv-loop : tie.InvT-loop
 Inv-loop choices mem₀ chosen₀ sum₀ count k₀ mem chosen sum k = laws.GoesOn choices mem₀ (chosen₀ .state) sum₀ count mem (chosen .state) sum k
@@ -67,7 +68,7 @@ loop-again c =
     let in-loop = at-worker .before .before .before in
     let inv = in-loop .before .loop .inv in
     laws.again inv (in-loop .loop-test .taken)
-    (laws.taken-turn _ _ _ _ (at-worker .wide .ensures) (at-line .wide2 .ensures) _ (at-offer .offer .ensures) (Event.Started _) (at-told .offered .given .1) _ _ (at-take .take-offered .ensures))
+    (offering.taken-turn _ _ _ _ (at-worker .wide .ensures) (at-line .wide2 .ensures) _ (at-offer .offer .ensures) (Event.Started _) (at-told .offered .given .1) _ _ (at-take .take-offered .ensures))
     (at-add .add .ensures) (at-take .take-offered .kept .1 .0)
 
 enum-known-offered-2 : tie.Need-enum-known-offered-2 Inv-loop μ-loop
@@ -90,7 +91,7 @@ loop-again-2 c =
     let in-loop = at-worker .before .before .before in
     let inv = in-loop .before .loop .inv in
     laws.again inv (in-loop .loop-test .taken)
-    (laws.taken-turn _ _ _ _ (at-worker .wide .ensures) (at-line .wide2 .ensures) _ (at-offer .offer .ensures) (Event.Finished _) (at-told .offered2 .given .1) _ _ (at-take .take-offered2 .ensures))
+    (offering.taken-turn _ _ _ _ (at-worker .wide .ensures) (at-line .wide2 .ensures) _ (at-offer .offer .ensures) (Event.Finished _) (at-told .offered2 .given .1) _ _ (at-take .take-offered2 .ensures))
     (at-add .add .ensures) (at-take .take-offered2 .kept .1 .0)
 
 enum-known-offered-3 : tie.Need-enum-known-offered-3 Inv-loop μ-loop
@@ -113,7 +114,7 @@ loop-again-3 c =
     let in-loop = at-worker .before .before .before in
     let inv = in-loop .before .loop .inv in
     laws.again inv (in-loop .loop-test .taken)
-    (laws.taken-turn _ _ _ _ (at-worker .wide .ensures) (at-line .wide2 .ensures) _ (at-offer .offer .ensures) (Event.Stopped _) (at-told .offered3 .given .1) _ _ (at-take .take-offered3 .ensures))
+    (offering.taken-turn _ _ _ _ (at-worker .wide .ensures) (at-line .wide2 .ensures) _ (at-offer .offer .ensures) (Event.Stopped _) (at-told .offered3 .given .1) _ _ (at-take .take-offered3 .ensures))
     (at-add .add .ensures) (at-take .take-offered3 .kept .1 .0)
 
 enum-told : tie.Need-enum-told Inv-loop μ-loop
@@ -131,7 +132,7 @@ loop-again-4 c =
     let in-loop = at-worker .before .before .before in
     let inv = in-loop .before .loop .inv in
     laws.again inv (in-loop .loop-test .taken)
-    (laws.refused-turn _ _ _ _ (at-worker .wide .ensures) (at-line .wide2 .ensures) _ (at-offer .offer .ensures) _ (c .enum-told .given .1))
+    (offering.refused-turn _ _ _ _ (at-worker .wide .ensures) (at-line .wide2 .ensures) _ (at-offer .offer .ensures) _ (c .enum-told .given .1))
     (at-add .add .ensures) refl
 
 same-length : tie.Need-same-length Inv-loop μ-loop

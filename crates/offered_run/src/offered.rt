@@ -1,5 +1,4 @@
 // The choices of a run, each of them offered first. The checksum is that of the offers' answers.
-use crate::checksum;
 use crate::wide;
 use engine::Chosen;
 use state::State;
@@ -31,7 +30,7 @@ pub(crate) fn follow_offered(state: State, choices: &[u8], mem: &mut [u16]) -> u
         let worker = wide(choices[2 * k]);
         let line = wide(choices[2 * k + 1]);
         let answer = engine::offer(before, mem, Worker(worker), Line(line));
-        sum = checksum::add(sum, answer);
+        sum = whole_run::add(sum, answer);
         chosen = engine::choose(before, mem, Worker(worker), Line(line));
         k += 1;
     }
@@ -55,7 +54,7 @@ pub(crate) fn follow_taken(state: State, choices: &[u8], mem: &mut [u16]) -> u64
         let worker = wide(choices[2 * k]);
         let line = wide(choices[2 * k + 1]);
         let offered = engine::offer(before, mem, Worker(worker), Line(line));
-        sum = checksum::add(sum, offered);
+        sum = whole_run::add(sum, offered);
         k += 1;
         match offered {
             Answer::Started(step) => chosen = engine::take_offered(
