@@ -1,5 +1,5 @@
 -- A choice made by an offer and a second call.
-use mathlib.Core.Path.{_≡_, sym, ap, _∙_, refl}
+use mathlib.Core.Path.{_≡_, refl, sym, ap, subst, _∙_}
 use mathlib.Core.List.{List}
 use Prim.Native.Nat.{ℕ, _+_, _*_}
 use lib.ListN.{getD}
@@ -17,19 +17,25 @@ use Rattle.state.specs.Machines.{machineOf}
 use Rattle.engine.specs.Machines.{chosenOf}
 use Rattle.state.specs.declared.State.{State}
 use Rattle.engine.specs.declared.Chosen.{Chosen}
+use Rattle.offered_run.specs.Takings.{takingOf}
+use Rattle.offered_run.specs.declared.offered.Taking.{Taking}
 use Rattle.whole_run.proofs.Summing.{Turned, chosen-there, chosen-is, chosen-turn}
 
--- the answer that gives an event
-abbrev pub giving : Event → Answer
-giving (Event.Started s) = Answer.Started s
-giving (Event.Finished s) = Answer.Finished s
-giving (Event.Stopped s) = Answer.Stopped s
+-- an answer with this to take is an event, or a refusal
+record IsRefused (a : Answer) : Type 0 where
+  why : Refusal
+  told : a ≡ Answer.Refused why
 
-given-is : (e : Event) → answerOf (giving e) ≡ eventOf e
-unfolding answerOf
-given-is (Event.Started s) = refl
-given-is (Event.Finished s) = refl
-given-is (Event.Stopped s) = refl
+abbrev Says : Taking → Answer → Type 0
+Says (Taking.Take e) a = answerOf a ≡ eventOf e
+Says Taking.Nothing a = IsRefused a
+
+says : (a : Answer) → Says (takingOf a) a
+unfolding answerOf takingOf
+says (Answer.Started s) = refl
+says (Answer.Finished s) = refl
+says (Answer.Stopped s) = refl
+says (Answer.Refused why) = record { why = why; told = refl }
 
 -- choice k, offered to its worker by a call,
 module _ (s : State) (m bytes : List ℕ) (k : ℕ) {w l : ℕ} (w-is : w ≡ getD bytes (2 * k) 0) (l-is : l ≡ getD bytes (2 * k + 1) 0) (a : Answer)
@@ -41,17 +47,21 @@ module _ (s : State) (m bytes : List ℕ) (k : ℕ) {w l : ℕ} (w-is : w ≡ ge
   pub offered-turn : (r : Chosen) (m′ : List ℕ) → chosenOf r m′ ≡ choose memorySource (machineOf s m) w l → Turned s m bytes k a (r .state) m′
   offered-turn r m′ e = record { answers-so = offered-is; leaves = chosen-turn s m bytes k w-is l-is r m′ e .leaves }
 
-  -- or, of an event, by `take_offered`,
-  pub taken-turn : (e : Event) → a ≡ giving e → (r : Chosen) (m′ : List ℕ) → chosenOf r m′ ≡ takeOffered memorySource (machineOf s m) e →
-      Turned s m bytes k a (r .state) m′
-  taken-turn e told r m′ takes =
-      offered-turn r m′ (takes ∙ taken-as-chosen memorySource (machineOf s m) w l e (sym offers ∙ ap answerOf told ∙ given-is e))
+  -- or, of what there is to take,
+  module _ {t t′ : Taking} (t-is : t ≡ takingOf a) (told : t ≡ t′) where
+    said : Says t′ a
+    said = subst (λ x. Says x a) (sym t-is ∙ told) (says a)
 
-  -- or, of a refusal, by nothing
-  pub refused-turn : (why : Refusal) → a ≡ Answer.Refused why → Turned s m bytes k a s m
+  -- by `take_offered` of an event,
+  pub taken-turn : {t : Taking} {e : Event} → t ≡ takingOf a → t ≡ Taking.Take e → (r : Chosen) (m′ : List ℕ) →
+      chosenOf r m′ ≡ takeOffered memorySource (machineOf s m) e → Turned s m bytes k a (r .state) m′
+  taken-turn {e = e} t-is told r m′ takes = offered-turn r m′ (takes ∙ taken-as-chosen memorySource (machineOf s m) w l e (sym offers ∙ said t-is told))
+
+  -- and, where there is none, by nothing
+  pub nothing-turn : {t : Taking} → t ≡ takingOf a → t ≡ Taking.Nothing → Turned s m bytes k a s m
   unfolding answerOf
-  refused-turn why told = record {
+  nothing-turn t-is told = let refused = said t-is told in record {
     answers-so = offered-is;
-    leaves = sym (refused-unchanged memorySource (machineOf s m) w l (numberOf why) (sym offers ∙ ap answerOf told)) ∙
+    leaves = sym (refused-unchanged memorySource (machineOf s m) w l (numberOf (refused .why)) (sym offers ∙ ap answerOf (refused .told))) ∙
         ap (λ c. c .machine) (chosen-is s m bytes k w-is l-is);
   }

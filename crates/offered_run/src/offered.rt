@@ -12,6 +12,24 @@ ghost use Rattle.rules.specs.Choices.{choicesIn, answers, follow as followed};
 ghost use Rattle.tables.specs.Calls.{memorySource};
 ghost use Rattle.state.specs.Machines.{machineOf};
 ghost use Rattle.whole_run.specs.Checksums.{checksum as checksumOf};
+ghost use Rattle.offered_run.specs.Takings.{takingOf};
+
+// What there is to take of an offer's answer: its event, or nothing.
+enum Taking {
+    Take(Event),
+    Nothing,
+}
+
+fn taking_of(answer: Answer) -> Taking
+    ensures { λ r. ⌜ r ≡ takingOf answer ⌝ }
+{
+    match answer {
+        Answer::Started(step) => Taking::Take(Event::Started(step)),
+        Answer::Finished(step) => Taking::Take(Event::Finished(step)),
+        Answer::Stopped(stop) => Taking::Take(Event::Stopped(stop)),
+        Answer::Refused(_) => Taking::Nothing,
+    }
+}
 
 // Offers each choice, then makes it.
 pub(crate) fn follow_offered(state: State, choices: &[u8], mem: &mut [u16]) -> u64
@@ -56,23 +74,9 @@ pub(crate) fn follow_taken(state: State, choices: &[u8], mem: &mut [u16]) -> u64
         let offered = engine::offer(before, mem, Worker(worker), Line(line));
         sum = whole_run::add(sum, offered);
         k += 1;
-        match offered {
-            Answer::Started(step) => chosen = engine::take_offered(
-                before,
-                mem,
-                Event::Started(step),
-            ),
-            Answer::Finished(step) => chosen = engine::take_offered(
-                before,
-                mem,
-                Event::Finished(step),
-            ),
-            Answer::Stopped(stop) => chosen = engine::take_offered(
-                before,
-                mem,
-                Event::Stopped(stop),
-            ),
-            Answer::Refused(_) => {}
+        match taking_of(offered) {
+            Taking::Take(event) => chosen = engine::take_offered(before, mem, event),
+            Taking::Nothing => {}
         }
     }
     sum

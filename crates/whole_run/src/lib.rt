@@ -2,7 +2,6 @@
 mod checksum;
 
 pub use checksum::add;
-
 ghost use mathlib.Core.Path.{_≡_};
 ghost use Rattle.rules.specs.Choices.{choicesIn, answers, follow as followed};
 ghost use Rattle.tables.specs.Calls.{memorySource};

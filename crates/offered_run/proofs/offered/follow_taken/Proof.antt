@@ -2,7 +2,6 @@
 use mathlib.Core.Path.{_≡_, refl}
 use native.Mathlib.Omega.{arith}
 use Prim.Native.Nat.{_-_}
-use Rattle.vocabulary.specs.declared.event.Event.{Event}
 use Rattle.whole_run.proofs.Summing as laws
 use Rattle.offered_run.proofs.Offering as offering
 use borrow.Author.Needs.{needs}
@@ -48,91 +47,49 @@ add-requires c κs = search needs
 add-k : tie.Need-add-k Inv-loop μ-loop
 add-k c = search needs
 
-enum-known-offered : tie.Need-enum-known-offered Inv-loop μ-loop
-enum-known-offered c = search needs
+taking-of-requires : tie.Need-taking-of-requires Inv-loop μ-loop
+taking-of-requires c κs = search needs
+
+enum-known-event : tie.Need-enum-known-event Inv-loop μ-loop
+enum-known-event c = search needs
 
 take-offered-requires : tie.Need-take-offered-requires Inv-loop μ-loop
 take-offered-requires c κs = search needs
 
 loop-less : tie.Need-loop-less Inv-loop μ-loop
-loop-less c = omega (arith, c .before .before .before .before .before .before .before .before .before .before .before .before .before .before .before .loop-test .taken)
+loop-less c = omega (arith, c .before .before .before .before .before .before .before .before .before .before .before .before .before .before .before .before .loop-test .taken)
 
 loop-again : tie.Need-loop-again Inv-loop μ-loop
 loop-again c =
     let at-take = c .before .before in
     let at-told = at-take .before .before .before in
-    let at-add = at-told .before .before in
+    let at-taking = at-told .before .before in
+    let at-add = at-taking .before in
     let at-offer = at-add .before in
     let at-line = at-offer .before .before in
     let at-worker = at-line .before .before in
     let in-loop = at-worker .before .before .before in
-    let inv = in-loop .before .loop .inv in
-    laws.again inv (in-loop .loop-test .taken)
-    (offering.taken-turn _ _ _ _ (at-worker .wide .ensures) (at-line .wide2 .ensures) _ (at-offer .offer .ensures) (Event.Started _) (at-told .offered .given .1) _ _ (at-take .take-offered .ensures))
+    laws.again (in-loop .before .loop .inv) (in-loop .loop-test .taken)
+    (offering.taken-turn _ _ _ _ (at-worker .wide .ensures) (at-line .wide2 .ensures) _ (at-offer .offer .ensures) (at-taking .taking-of .ensures) (at-told .event .given .1) _ _
+    (at-take .take-offered .ensures))
     (at-add .add .ensures) (at-take .take-offered .kept .1 .0)
-
-enum-known-offered-2 : tie.Need-enum-known-offered-2 Inv-loop μ-loop
-enum-known-offered-2 c = search needs
-
-take-offered-requires-2 : tie.Need-take-offered-requires-2 Inv-loop μ-loop
-take-offered-requires-2 c κs = search needs
-
-loop-less-2 : tie.Need-loop-less-2 Inv-loop μ-loop
-loop-less-2 c = omega (arith, c .before .before .before .before .before .before .before .before .before .before .before .before .before .before .before .loop-test .taken)
-
-loop-again-2 : tie.Need-loop-again-2 Inv-loop μ-loop
-loop-again-2 c =
-    let at-take = c .before .before in
-    let at-told = at-take .before .before .before in
-    let at-add = at-told .before .before in
-    let at-offer = at-add .before in
-    let at-line = at-offer .before .before in
-    let at-worker = at-line .before .before in
-    let in-loop = at-worker .before .before .before in
-    let inv = in-loop .before .loop .inv in
-    laws.again inv (in-loop .loop-test .taken)
-    (offering.taken-turn _ _ _ _ (at-worker .wide .ensures) (at-line .wide2 .ensures) _ (at-offer .offer .ensures) (Event.Finished _) (at-told .offered2 .given .1) _ _ (at-take .take-offered2 .ensures))
-    (at-add .add .ensures) (at-take .take-offered2 .kept .1 .0)
-
-enum-known-offered-3 : tie.Need-enum-known-offered-3 Inv-loop μ-loop
-enum-known-offered-3 c = search needs
-
-take-offered-requires-3 : tie.Need-take-offered-requires-3 Inv-loop μ-loop
-take-offered-requires-3 c κs = search needs
-
-loop-less-3 : tie.Need-loop-less-3 Inv-loop μ-loop
-loop-less-3 c = omega (arith, c .before .before .before .before .before .before .before .before .before .before .before .before .before .before .before .loop-test .taken)
-
-loop-again-3 : tie.Need-loop-again-3 Inv-loop μ-loop
-loop-again-3 c =
-    let at-take = c .before .before in
-    let at-told = at-take .before .before .before in
-    let at-add = at-told .before .before in
-    let at-offer = at-add .before in
-    let at-line = at-offer .before .before in
-    let at-worker = at-line .before .before in
-    let in-loop = at-worker .before .before .before in
-    let inv = in-loop .before .loop .inv in
-    laws.again inv (in-loop .loop-test .taken)
-    (offering.taken-turn _ _ _ _ (at-worker .wide .ensures) (at-line .wide2 .ensures) _ (at-offer .offer .ensures) (Event.Stopped _) (at-told .offered3 .given .1) _ _ (at-take .take-offered3 .ensures))
-    (at-add .add .ensures) (at-take .take-offered3 .kept .1 .0)
 
 enum-told : tie.Need-enum-told Inv-loop μ-loop
 enum-told c = search needs
 
-loop-less-4 : tie.Need-loop-less-4 Inv-loop μ-loop
-loop-less-4 c = omega (arith, c .before .before .before .before .before .before .before .before .before .before .loop-test .taken)
+loop-less-2 : tie.Need-loop-less-2 Inv-loop μ-loop
+loop-less-2 c = omega (arith, c .before .before .before .before .before .before .before .before .before .before .before .loop-test .taken)
 
-loop-again-4 : tie.Need-loop-again-4 Inv-loop μ-loop
-loop-again-4 c =
-    let at-add = c .before .before in
+loop-again-2 : tie.Need-loop-again-2 Inv-loop μ-loop
+loop-again-2 c =
+    let at-taking = c .before .before in
+    let at-add = at-taking .before in
     let at-offer = at-add .before in
     let at-line = at-offer .before .before in
     let at-worker = at-line .before .before in
     let in-loop = at-worker .before .before .before in
-    let inv = in-loop .before .loop .inv in
-    laws.again inv (in-loop .loop-test .taken)
-    (offering.refused-turn _ _ _ _ (at-worker .wide .ensures) (at-line .wide2 .ensures) _ (at-offer .offer .ensures) _ (c .enum-told .given .1))
+    laws.again (in-loop .before .loop .inv) (in-loop .loop-test .taken)
+    (offering.nothing-turn _ _ _ _ (at-worker .wide .ensures) (at-line .wide2 .ensures) _ (at-offer .offer .ensures) (at-taking .taking-of .ensures) (c .enum-told .given .1))
     (at-add .add .ensures) refl
 
 same-length : tie.Need-same-length Inv-loop μ-loop
@@ -158,20 +115,13 @@ follow-taken-spec =
     offer-requires
     add-requires
     add-k
-    enum-known-offered
+    taking-of-requires
+    enum-known-event
     take-offered-requires
     loop-less
     loop-again
-    enum-known-offered-2
-    take-offered-requires-2
+    enum-told
     loop-less-2
     loop-again-2
-    enum-known-offered-3
-    take-offered-requires-3
-    loop-less-3
-    loop-again-3
-    enum-told
-    loop-less-4
-    loop-again-4
     same-length
     returns)

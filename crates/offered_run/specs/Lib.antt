@@ -1,0 +1,2 @@
+-- What there is to take of an answer.
+pub mod Takings
