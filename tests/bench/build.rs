@@ -1,17 +1,19 @@
-//! Links the archive that `rt staticlib whole_run` writes, and, where BENCH_BEFORE names an older
-//! one, that too, with its functions under other names.
+//! Links the archives that `rt staticlib whole_run` and `rt staticlib offered_run` write, and, where
+//! BENCH_BEFORE names an older one of the first, that too, with its functions under other names.
 
 use std::env;
 use std::fs;
 use std::path::{Path, PathBuf};
 use std::process::Command;
 
-/// An older archive may have only the first of them.
+/// Of an older archive; one of them alone may have all three.
 const EXPORTED: [&str; 3] = ["pipeline_run", "pipeline_run_offered", "pipeline_run_taken"];
 
 fn main() {
     let here = PathBuf::from(env::var_os("CARGO_MANIFEST_DIR").expect("cargo sets it"));
-    link(&here.join("../../target/staticlib"), "whole_run");
+    let archives = here.join("../../target/staticlib");
+    link(&archives, "whole_run");
+    link(&archives, "offered_run");
     println!("cargo:rustc-check-cfg=cfg(before)");
     println!("cargo:rerun-if-env-changed=BENCH_BEFORE");
     if let Some(archive) = env::var_os("BENCH_BEFORE").filter(|name| !name.is_empty()) {

@@ -1,4 +1,5 @@
-//! The proved library's functions.
+//! The functions of the two proved archives: choices alone are in one of their own, as the compiler would
+//! make another program of them beside calls of the same functions from elsewhere.
 
 use crate::plain::Choice;
 
