@@ -1,5 +1,5 @@
 -- `offered_run::offered::follow_taken` meets its contract.
-use mathlib.Core.Path.{_≡_, refl}
+use mathlib.Core.Path.{refl}
 use native.Mathlib.Omega.{arith}
 use Prim.Native.Nat.{_-_}
 use Rattle.whole_run.proofs.Summing as laws
