@@ -40,7 +40,6 @@ returns-2 : tie.Need-returns-2
 unfolding slotAt
 returns-2 c = λ h. refl
 
-
 pub slot-of-spec : {M : Type 1} → statement M
 slot-of-spec =
     tie.close
