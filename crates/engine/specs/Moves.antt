@@ -12,7 +12,6 @@ use Rattle.vocabulary.specs.declared.Slot.{Slot}
 use Rattle.vocabulary.specs.declared.Slots.{Slots}
 use Rattle.vocabulary.specs.declared.answer.Answer.{Answer}
 use Rattle.vocabulary.specs.declared.answer.Step.{Step}
-use Rattle.vocabulary.specs.declared.event.Event.{Event}
 use Rattle.rules.specs.RunState.{Machine, waits, slotAt, putSlot, counterAt, slotOf, full}
 use Rattle.rules.specs.Choices.{Chosen, Finished, next, moved, withPlace, startFirst}
 use Rattle.rules.specs.Answers.{answerOf}
@@ -71,15 +70,12 @@ finishedOf m l c x =
       machine = withPlace m c (putSlot (m .slots) l (moved (m .pipes) s)) (m .placed) (m .stopped) x;
     }
 
--- a finish by its slot, as a step; its answer, and its event
+-- a finish by its slot, as a step, and its answer
 abbrev pub finishedStep : Line → Slot → Step
 finishedStep line slot = record { line = line; pipe = slot .pipe; token = slot .token; place = slot .place; worker = slot .worker }
 
 abbrev pub finishedAnswer : Line → Slot → Answer
 finishedAnswer line slot = Answer.Finished (finishedStep line slot)
-
-abbrev pub finishedEvent : ℕ → Slot → Event
-finishedEvent l slot = Event.Finished (finishedStep (record { 0 = l }) slot)
 
 -- a finish, worked out
 abbrev pub settledTurn : Figures → Line → Slot → Falls → Tables → Turn

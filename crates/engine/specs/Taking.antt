@@ -1,24 +1,17 @@
 -- A choice that is made only if it gives a certain event, as the code has it.
+use mathlib.Core.Bool.{Bool, false}
 use Rattle.vocabulary.specs.declared.answer.Answer.{Answer}
 use Rattle.vocabulary.specs.declared.event.Event.{Event}
 use Rattle.vocabulary.specs.declared.event.EventRecord.{EventRecord}
 use Rattle.vocabulary.specs.declared.refusal.Refusal.{Refusal}
 use Rattle.vocabulary.specs.Events.{eventRecord, sameRecord}
-use Rattle.rules.specs.Lists.{must}
-use Rattle.rules.specs.Choices as rules
-use Rattle.tables.specs.State as tables
-use Rattle.engine.specs.declared.turn.Comparison.{Comparison}
 
--- an event beside a record: refused where they differ in a field
-abbrev pub comparedEvent : Event → EventRecord → Refusal → Comparison
-comparedEvent e r other = must (sameRecord (eventRecord e) r) (Comparison.Refused other) Comparison.Same
-
--- an answer beside a record: a choice's own refusal comes first
-abbrev pub comparedAnswer : Answer → EventRecord → Refusal → Comparison
-comparedAnswer (Answer.Started s) r other = comparedEvent (Event.Started s) r other
-comparedAnswer (Answer.Finished s) r other = comparedEvent (Event.Finished s) r other
-comparedAnswer (Answer.Stopped s) r other = comparedEvent (Event.Stopped s) r other
-comparedAnswer (Answer.Refused why) r other = Comparison.Refused why
+-- whether an answer is the event of a record; a refusal is none
+abbrev pub agreesWith : Answer → EventRecord → Bool
+agreesWith (Answer.Started s) r = sameRecord (eventRecord (Event.Started s)) r
+agreesWith (Answer.Finished s) r = sameRecord (eventRecord (Event.Finished s)) r
+agreesWith (Answer.Stopped s) r = sameRecord (eventRecord (Event.Stopped s)) r
+agreesWith (Answer.Refused why) r = false
 
 -- a choice's own refusal, or the other
 abbrev pub ownOr : Answer → Refusal → Refusal

@@ -15,6 +15,8 @@ use Rattle.tables.specs.Calls.{memorySource}
 use Rattle.state.specs.declared.State.{State}
 use Rattle.state.specs.declared.Figures.{Figures}
 use Rattle.state.specs.Machines.{slotsOf, machineOf, whole, Ready}
+use Rattle.ranges.specs.declared.Survey.{Survey}
+use Rattle.ranges.specs.Surveys.{surveyOf}
 use Rattle.engine.specs.declared.Chosen.{Chosen}
 use Rattle.engine.specs.declared.turn.Change.{Change}
 use Rattle.engine.specs.declared.turn.Move.{Move}
@@ -64,6 +66,10 @@ abbrev pub AnswersAs : (Machine tables.State → ℕ → rules.Chosen tables.Sta
 AnswersAs rule f counters l slot a m =
     (slots : Slots) → slotAt slots l ≡ slot →
     answerOf a ≡ rule (machineOf (whole f counters slots) m) l .answer
+
+-- what a look over the state told, with some memory
+abbrev pub Seen : Figures → List ℕ → Slots → ℕ → ℕ → Survey → Type 0
+Seen f counters slots w l seen = (m : List ℕ) × (seen ≡ surveyOf f counters slots m w l)
 
 -- the line is one of the plan and has this slot, and the worker's choice of it is what a rule makes of the line
 pub record Goes (rule : Machine tables.State → ℕ → rules.Chosen tables.State) (f : Figures) (counters : List ℕ) (slots : Slots) (w l : ℕ) (m : List ℕ) (slot : Slot) : Type 0 where

@@ -6,6 +6,7 @@ mod turn;
 
 pub use offering::offer;
 pub use offering::take_offered;
+use ranges::Survey;
 use state::COUNTERS_OF_LINE;
 use state::Figures;
 use state::State;
@@ -18,12 +19,17 @@ use vocabulary::Slot;
 use vocabulary::Slots;
 use vocabulary::Worker;
 ghost use mathlib.Core.Path.{_≡_};
+ghost use mathlib.Core.List.{List};
+ghost use Prim.Native.Nat.{ℕ};
+ghost use Rattle.vocabulary.specs.Refusals.{numberOf};
 ghost use Rattle.rules.specs.Choices.{choose as chosenBy};
+ghost use Rattle.rules.specs.Offers.{onlyIf};
 ghost use Rattle.tables.specs.Calls.{memorySource};
 ghost use Rattle.state.specs.Machines.{machineOf, whole, Ready};
 ghost use Rattle.state.specs.Ending.{isEarly};
 ghost use Rattle.engine.specs.Machines.{chosenOf};
-ghost use Rattle.engine.specs.Turns.{turned, Fits, Tells};
+ghost use Rattle.ranges.specs.Surveys.{surveyOf};
+ghost use Rattle.engine.specs.Turns.{turned, Fits, Seen, Tells};
 
 // What a choice returns: its answer, and the state after it.
 pub struct Chosen {
@@ -43,18 +49,19 @@ fn is_early(f: Figures, slot: Slot, counters: &[u8; 512], l: u16) -> bool
     counters[at] != 0
 }
 
-// The checks of a choice, up to its start or finish: what the line does then.
+// The checks of a choice, up to its start or finish, by what a look over the state told: what the line does then.
 fn move_of(
+    seen: Survey,
     f: Figures,
     slots: Slots,
     counters: &[u8; 512],
-    mem: &[u16],
     worker: Worker,
     line: Line,
 ) -> Move
-    ensures { λ r. ⌜ Tells f (now (counters .entry)) slots (worker .0) (line .0) (now (mem .entry)) r ⌝ }
+    requires { ⌜ Seen f (now counters) slots (worker .0) (line .0) seen ⌝ }
+    ensures { λ r. ⌜ ((m : List ℕ) → seen ≡ surveyOf f (now (counters .entry)) slots m (worker .0) (line .0) →
+        Tells f (now (counters .entry)) slots (worker .0) (line .0) m r) ⌝ }
 {
-    let seen = ranges::look_over(f, slots, counters, mem, worker.0, line.0);
     if !seen.sound {
         return Move::Refused(Refusal::Spoiled);
     }
@@ -84,7 +91,8 @@ fn move_of(
     Move::Start(slot)
 }
 
-// A choice, worked out.
+// A choice, worked out; where it would be made but is not `agreed`, it is refused with `other`. (The look is in three calls, here and
+// in an offer, so that what is small of it becomes part of both, and only its scan of the counters is shared.)
 fn turn_of(
     f: Figures,
     slots: Slots,
@@ -92,75 +100,91 @@ fn turn_of(
     mem: &mut [u16],
     worker: Worker,
     line: Line,
+    agreed: bool,
+    other: Refusal,
 ) -> Turn
     ensures fits { λ r. ⌜ Fits (line .0) r ⌝ }
     ensures chooses { λ r. ⌜ chosenOf (turned (whole f (now (counters .entry)) slots) (line .0) r) (now (mem .exit)) ≡
-        chosenBy memorySource (machineOf (whole f (now (counters .entry)) slots) (now (mem .entry))) (worker .0) (line .0) ⌝ }
+        onlyIf (machineOf (whole f (now (counters .entry)) slots) (now (mem .entry))) agreed (numberOf other)
+        (chosenBy memorySource (machineOf (whole f (now (counters .entry)) slots) (now (mem .entry))) (worker .0) (line .0)) ⌝ }
 {
-    match move_of(f, slots, counters, mem, worker, line) {
+    let rows = ranges::rows_sound(counters, &f.serial, f.pipes, f.lines);
+    let rest = ranges::rest_sound(rows, f, mem);
+    let seen = ranges::look_over(rest, f, slots, worker.0, line.0);
+    match move_of(seen, f, slots, counters, worker, line) {
         Move::Refused(why) => Turn::Refused(why),
-        Move::Start(slot) => starting::start(f, slot, mem, worker, line),
-        Move::Finish(slot) => finishing::finish(f, slot, counters, mem, line),
+        Move::Start(slot) => {
+            if agreed {
+                return starting::start(f, slot, mem, worker, line);
+            }
+            let told = starting::would_start(f, slot, mem, worker, line);
+            Turn::Refused(offering::own_or(told, other))
+        }
+        Move::Finish(slot) => {
+            if agreed {
+                return finishing::finish(f, slot, counters, mem, line);
+            }
+            let told = finishing::would_finish(f, slot, counters, mem, line);
+            Turn::Refused(offering::own_or(told, other))
+        }
     }
 }
 
-// A choice names a worker and a line: the line starts, finishes or stops, or the choice is refused.
-pub fn choose(mut s: State, mem: &mut [u16], worker: Worker, line: Line) -> Chosen
-    ensures { λ r. ⌜ chosenOf r (now (mem .exit)) ≡ chosenBy memorySource (machineOf s (now (mem .entry))) (worker .0) (line .0) ⌝ }
+// A choice that is made only if it is `agreed`, and else refused with `other`; its own refusals come first. (The state is copied to be
+// written only after it was taken apart, which saves a copy.)
+fn choose_if(
+    s: State,
+    mem: &mut [u16],
+    worker: Worker,
+    line: Line,
+    agreed: bool,
+    other: Refusal,
+) -> Chosen
+    ensures { λ r. ⌜ chosenOf r (now (mem .exit)) ≡
+        onlyIf (machineOf s (now (mem .entry))) agreed (numberOf other) (chosenBy memorySource (machineOf s (now (mem .entry))) (worker .0) (line .0)) ⌝ }
 {
-    let serial = s.serial;
-    let at = s.at;
-    let running = s.running;
-    let token = s.token;
-    let place = s.place;
-    let workers = s.worker;
-    let slots = Slots {
-        at,
-        running,
-        token,
-        place,
-        worker: workers,
-    };
-    let t = s.tables;
-    let f = Figures {
-        pipes: s.pipes,
-        lines: s.lines,
-        workers: s.workers,
-        serial,
-        placed: s.placed,
-        stopped: s.stopped,
-        tables: t,
-    };
-    let turn = turn_of(f, slots, &s.counters, mem, worker, line);
-    match turn {
+    let f = s.figures();
+    let slots = s.slots();
+    let mut after = s;
+    match turn_of(f, slots, &after.counters, mem, worker, line, agreed, other) {
         Turn::Refused(why) => Chosen {
             answer: Answer::Refused(why),
-            state: s,
+            state: after,
         },
         Turn::Made(change) => {
             let first = change.first;
             let second = change.second;
             let slot = change.slot;
-            let after = change.tables;
+            let t = change.tables;
             let answer = change.answer;
             let a = first.at;
             let b = second.at;
-            s.counters[a] = first.value;
-            s.counters[b] = second.value;
+            after.counters[a] = first.value;
+            after.counters[b] = second.value;
             let pipe = slot.pipe;
             let token = slot.token;
             let place = slot.place;
             let by = slot.worker;
             let l = line.0 as usize;
-            s.at[l] = pipe;
-            s.running[l] = slot.running;
-            s.token[l] = token;
-            s.place[l] = place;
-            s.worker[l] = by;
-            s.placed = change.placed;
-            s.stopped = change.stopped;
-            s.tables = after;
-            Chosen { answer, state: s }
+            after.at[l] = pipe;
+            after.running[l] = slot.running;
+            after.token[l] = token;
+            after.place[l] = place;
+            after.worker[l] = by;
+            after.placed = change.placed;
+            after.stopped = change.stopped;
+            after.tables = t;
+            Chosen {
+                answer,
+                state: after,
+            }
         }
     }
+}
+
+// A choice names a worker and a line: the line starts, finishes or stops, or the choice is refused.
+pub fn choose(s: State, mem: &mut [u16], worker: Worker, line: Line) -> Chosen
+    ensures { λ r. ⌜ chosenOf r (now (mem .exit)) ≡ chosenBy memorySource (machineOf s (now (mem .entry))) (worker .0) (line .0) ⌝ }
+{
+    choose_if(s, mem, worker, line, true, Refusal::Spoiled)
 }

@@ -1,10 +1,10 @@
 // An offer tells what a choice would answer. A taking makes the choice only if its event is the one that is handed in: that is found out
 // before anything is written.
 use crate::Chosen;
+use crate::choose_if;
 use crate::finishing;
 use crate::move_of;
 use crate::starting;
-use crate::turn::Comparison;
 use crate::turn::Move;
 use state::Figures;
 use state::SLOTS;
@@ -13,23 +13,22 @@ use vocabulary::Answer;
 use vocabulary::Event;
 use vocabulary::EventRecord;
 use vocabulary::Line;
-use vocabulary::Pipe;
-use vocabulary::Place;
 use vocabulary::Refusal;
 use vocabulary::Slot;
 use vocabulary::Slots;
-use vocabulary::Token;
 use vocabulary::Worker;
 ghost use mathlib.Core.Path.{_≡_};
-ghost use Prim.Native.Nat.{_<_};
+ghost use mathlib.Core.List.{List};
+ghost use Prim.Native.Nat.{ℕ};
 ghost use Rattle.vocabulary.specs.Refusals.{numberOf};
+ghost use Rattle.vocabulary.specs.Events.{eventRecord, sameRecord};
 ghost use Rattle.rules.specs.Answers.{answerOf};
 ghost use Rattle.rules.specs.RunState.{slotAt};
 ghost use Rattle.rules.specs.Offers.{offer as offeredBy, shown as shownBy, takeRecord, takeOffered};
 ghost use Rattle.tables.specs.Calls.{memorySource};
-ghost use Rattle.state.specs.Machines.{slotsOf, machineOf, whole};
+ghost use Rattle.state.specs.Machines.{machineOf, whole};
 ghost use Rattle.engine.specs.Machines.{chosenOf};
-ghost use Rattle.engine.specs.Taking.{comparedEvent, comparedAnswer, ownOr};
+ghost use Rattle.engine.specs.Taking.{agreesWith, ownOr};
 
 // What a choice would answer, worked out.
 fn answer_of(
@@ -42,7 +41,10 @@ fn answer_of(
 ) -> Answer
     ensures { λ r. ⌜ answerOf r ≡ offeredBy memorySource (machineOf (whole f (now (counters .entry)) slots) (now (mem .entry))) (worker .0) (line .0) ⌝ }
 {
-    match move_of(f, slots, counters, mem, worker, line) {
+    let rows = ranges::rows_sound(counters, &f.serial, f.pipes, f.lines);
+    let rest = ranges::rest_sound(rows, f, mem);
+    let seen = ranges::look_over(rest, f, slots, worker.0, line.0);
+    match move_of(seen, f, slots, counters, worker, line) {
         Move::Refused(why) => Answer::Refused(why),
         Move::Start(slot) => starting::would_start(f, slot, mem, worker, line),
         Move::Finish(slot) => finishing::would_finish(f, slot, counters, mem, line),
@@ -50,41 +52,36 @@ fn answer_of(
 }
 
 // What a choice would answer: its event, or why it is refused. Nothing is written.
-// (The counters by a name of their own are lent as they lie; lent as a field of the state they would have all of it copied.)
 pub fn offer(s: State, mem: &[u16], worker: Worker, line: Line) -> Answer
     ensures { λ r. ⌜ answerOf r ≡ offeredBy memorySource (machineOf s (now (mem .entry))) (worker .0) (line .0) ⌝ }
 {
     let f = s.figures();
     let slots = s.slots();
-    let counters = s.counters;
-    answer_of(f, slots, &counters, mem, worker, line)
+    answer_of(f, slots, &s.counters, mem, worker, line)
 }
 
-// An event beside a record: refused with `other` where they differ in a field.
-fn compare_event(event: Event, wanted: EventRecord, other: Refusal) -> Comparison
-    ensures { λ r. ⌜ r ≡ comparedEvent event wanted other ⌝ }
+// Whether an event's record is this one.
+fn is_event(event: Event, wanted: EventRecord) -> bool
+    ensures { λ r. ⌜ r ≡ sameRecord (eventRecord event) wanted ⌝ }
 {
     let own = event.record();
-    if own.same(wanted) {
-        return Comparison::Same;
-    }
-    Comparison::Refused(other)
+    own.same(wanted)
 }
 
-// An answer beside a record: a choice's own refusal stays.
-fn compare(answer: Answer, wanted: EventRecord, other: Refusal) -> Comparison
-    ensures { λ r. ⌜ r ≡ comparedAnswer answer wanted other ⌝ }
+// Whether an answer is the event of this record.
+fn is_answer(answer: Answer, wanted: EventRecord) -> bool
+    ensures { λ r. ⌜ r ≡ agreesWith answer wanted ⌝ }
 {
     match answer {
-        Answer::Started(step) => compare_event(Event::Started(step), wanted, other),
-        Answer::Finished(step) => compare_event(Event::Finished(step), wanted, other),
-        Answer::Stopped(stop) => compare_event(Event::Stopped(stop), wanted, other),
-        Answer::Refused(why) => Comparison::Refused(why),
+        Answer::Started(step) => is_event(Event::Started(step), wanted),
+        Answer::Finished(step) => is_event(Event::Finished(step), wanted),
+        Answer::Stopped(stop) => is_event(Event::Stopped(stop), wanted),
+        Answer::Refused(_) => false,
     }
 }
 
 // A choice's own refusal; `other` where it has none.
-fn own_or(answer: Answer, other: Refusal) -> Refusal
+pub(crate) fn own_or(answer: Answer, other: Refusal) -> Refusal
     ensures { λ r. ⌜ r ≡ ownOr answer other ⌝ }
 {
     match answer {
@@ -95,62 +92,40 @@ fn own_or(answer: Answer, other: Refusal) -> Refusal
     }
 }
 
-// The slot of a line, if there is one; else that of an idle one.
-fn slot_of(s: State, l: u16) -> Slot
-    ensures { λ r. ⌜ (l < 32 → r ≡ slotAt (slotsOf s) l) ⌝ }
+// What a line's slot and the tables say that it does next. Nothing else is looked at: a choice that is accepted gives just this.
+fn shown(f: Figures, slot: Slot, mem: &[u16], worker: Worker, line: Line) -> Answer
+    ensures { λ r. ⌜ ((counters : List ℕ) (slots : Slots) → slotAt slots (line .0) ≡ slot →
+        answerOf r ≡ shownBy memorySource (machineOf (whole f counters slots) (now (mem .entry))) (worker .0) (line .0)) ⌝ }
 {
-    let at = l as usize;
-    if SLOTS <= at {
-        return Slot {
-            pipe: Pipe(0),
-            running: false,
-            token: Token(0),
-            place: Place(0),
-            worker: Worker(0),
-        };
-    }
-    Slot {
-        pipe: s.at[at],
-        running: s.running[at],
-        token: s.token[at],
-        place: s.place[at],
-        worker: s.worker[at],
-    }
-}
-
-// What the line's slot and the tables say that it does next. Nothing else is looked at: a choice that is accepted gives just this.
-fn shown(s: State, mem: &[u16], worker: Worker, line: Line) -> Answer
-    ensures { λ r. ⌜ (line .0 < 32 → answerOf r ≡ shownBy memorySource (machineOf s (now (mem .entry))) (worker .0) (line .0)) ⌝ }
-{
-    let slot = slot_of(s, line.0);
     if slot.running {
         return finishing::finished(slot, line);
     }
-    let f = s.figures();
     starting::would_start(f, slot, mem, worker, line)
 }
 
-// The choice that a record names, made only if its event is the record's, and refused with `other` where it is another. If it is what
-// the slot shows, the choice makes all checks; if not, the offer tells whether the choice would be refused anyway.
+// The choice that a record names, made only if its event is the record's, and refused with `other` where it is another. (The slot is
+// read here: in a function of its own the state would be copied once more.)
 fn take_record(s: State, mem: &mut [u16], wanted: EventRecord, other: Refusal) -> Chosen
     ensures { λ r. ⌜ chosenOf r (now (mem .exit)) ≡ takeRecord memorySource (machineOf s (now (mem .entry))) wanted (numberOf other) ⌝ }
 {
     let worker = Worker(wanted.worker);
     let line = Line(wanted.line);
-    let told = shown(s, mem, worker, line);
-    match compare(told, wanted, other) {
-        Comparison::Same => crate::choose(s, mem, worker, line),
-        Comparison::Refused(_) => {
-            let f = s.figures();
-            let slots = s.slots();
-            let counters = s.counters;
-            let offered = answer_of(f, slots, &counters, mem, worker, line);
-            Chosen {
-                answer: Answer::Refused(own_or(offered, other)),
-                state: s,
-            }
-        }
+    let l = wanted.line as usize;
+    let mut agreed = false;
+    if l < SLOTS {
+        let f = s.figures();
+        let slots = s.slots();
+        let slot = Slot {
+            pipe: slots.at[l],
+            running: slots.running[l],
+            token: slots.token[l],
+            place: slots.place[l],
+            worker: slots.worker[l],
+        };
+        let told = shown(f, slot, mem, worker, line);
+        agreed = is_answer(told, wanted);
     }
+    choose_if(s, mem, worker, line, agreed, other)
 }
 
 // Takes an event that was offered, if it is still what its line would do.

@@ -32,9 +32,3 @@ pub enum Move {
     Start(Slot),
     Finish(Slot),
 }
-
-// How an answer compares with the record of an event: it is that event, or the choice is refused.
-pub enum Comparison {
-    Same,
-    Refused(Refusal),
-}

@@ -2,7 +2,7 @@
 use mathlib.Core.Bool.{Bool, true, false}
 use mathlib.Core.List.{List, [], _∷_}
 use Prim.Native.Nat.{ℕ}
-use lib.Dec.{ltb}
+use lib.Dec.{leb, ltb}
 use Rattle.rules.specs.Lists.{if, must, all, every}
 use Rattle.vocabulary.specs.declared.Slots.{Slots}
 use Rattle.rules.specs.RunState.{idle, slotAt}
@@ -14,6 +14,14 @@ use Rattle.state.specs.declared.Figures.{Figures}
 use Rattle.ranges.specs.declared.Survey.{Survey}
 use Rattle.state.specs.Machines.{machineOf, whole}
 use Rattle.ranges.specs.RangeParts.{figuresSound, flagSound}
+
+-- the counters and the flags are within their ranges, for so many pipes and lines
+unfoldable pub rowsSound : ℕ → ℕ → List Bool → List ℕ → Bool
+rowsSound pipes lines serial counters =
+    all (
+    leb pipes 16 ∷ leb lines 32 ∷
+    every 512 (counterSound pipes lines serial counters) ∷
+    every 16 (flagSound pipes serial) ∷ [])
 
 -- all numbers but those of the slots are within their ranges
 unfoldable pub restSound : Figures → List ℕ → List ℕ → Bool

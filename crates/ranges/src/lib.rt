@@ -18,9 +18,10 @@ use vocabulary::Slots;
 use vocabulary::Token;
 use vocabulary::Worker;
 ghost use mathlib.Core.Path.{_≡_};
-ghost use Prim.Native.Nat.{_<_};
+ghost use mathlib.Core.List.{List};
+ghost use Prim.Native.Nat.{ℕ, _<_};
 ghost use Rattle.ranges.specs.RangeParts.{figuresSound};
-ghost use Rattle.ranges.specs.Surveys.{restSound, near as nearOf, spoiled, surveyOf};
+ghost use Rattle.ranges.specs.Surveys.{rowsSound, restSound, near as nearOf, spoiled, surveyOf};
 
 // What a look over the state tells: whether it is sound, and if so whether the chosen worker runs a line and what the chosen line does.
 pub struct Survey {
@@ -57,20 +58,39 @@ fn numbers_sound(f: Figures) -> bool
     f.placed <= f.tables.tokens
 }
 
-// All but the slots. The flags come after the counters: the first one, known before, would have the counters of pipe 0 compared
-// apart from their row.
-fn rest_sound(f: Figures, counters: &[u8; 512], mem: &[u16]) -> bool
-    ensures { λ r. ⌜ r ≡ restSound f (now (counters .entry)) (now (mem .entry)) ⌝ }
+// The counters and the flags. (Numbers and references alone: a program that has two calls of it makes real calls, and copies nothing
+// for them.) The flags come after the counters: the first one, known before, would have the counters of pipe 0 compared apart from
+// their row.
+pub fn rows_sound<'a>(
+    counters: &'a [u8; 512],
+    serial: &'a [bool; 16],
+    pipes: u16,
+    lines: u16,
+) -> bool
+    ensures { λ r. ⌜ r ≡ rowsSound pipes lines (now (serial .entry)) (now (counters .entry)) ⌝ }
 {
+    if MOST_PIPES < pipes {
+        return false;
+    }
+    if MOST_LINES < lines {
+        return false;
+    }
+    let pipes = pipes as usize;
+    let lines = lines as usize;
+    if !counters::counters_sound(counters, serial, pipes, lines) {
+        return false;
+    }
+    flags::flags_sound(serial, pipes)
+}
+
+// All but the slots, once the counters and flags are known.
+pub fn rest_sound(rows: bool, f: Figures, mem: &[u16]) -> bool
+    ensures { λ r. ⌜ ((counters : List ℕ) → rows ≡ rowsSound (f .pipes) (f .lines) (f .serial) counters → r ≡ restSound f counters (now (mem .entry))) ⌝ }
+{
+    if !rows {
+        return false;
+    }
     if !numbers_sound(f) {
-        return false;
-    }
-    let pipes = f.pipes as usize;
-    let lines = f.lines as usize;
-    if !counters::counters_sound(counters, &f.serial, pipes, lines) {
-        return false;
-    }
-    if !flags::flags_sound(&f.serial, pipes) {
         return false;
     }
     let t = f.tables;
@@ -107,18 +127,14 @@ fn unsound() -> Survey
     }
 }
 
-// Every number of the state, and of the tables and their memory.
-pub fn look_over(
-    f: Figures,
-    slots: Slots,
-    counters: &[u8; 512],
-    mem: &[u16],
-    worker: u16,
-    line: u16,
-) -> Survey
-    ensures { λ r. ⌜ r ≡ surveyOf f (now (counters .entry)) slots (now (mem .entry)) worker line ⌝ }
+// The look over the slots, once the rest is known.
+pub fn look_over(rest: bool, f: Figures, slots: Slots, worker: u16, line: u16) -> Survey
+    ensures { λ r. ⌜ ((counters mem : List ℕ) → rest ≡ restSound f counters mem → r ≡ surveyOf f counters slots mem worker line) ⌝ }
 {
-    if !rest_sound(f, counters, mem) {
+    if !rest {
+        return unsound();
+    }
+    if f.pipes < 1 {
         return unsound();
     }
     let found = slots::walk(slots, f.lines, f.pipes, f.tables.tokens, f.workers, worker);

@@ -35,12 +35,11 @@ eventOf (Event.Stopped s) = Stopped (s .line .0) (s .worker .0)
 abbrev pub named : EventRecord → Choice
 named r = record { worker = r .worker; line = r .line }
 
--- what comes of a choice that is to be made only if its event is the record's: its own refusal first, then this number "when the handed
--- event differs", and nothing has changed
-unfoldable pub onlyIf : {X : Type 0} → Machine X → EventRecord → ℕ → Chosen X → Chosen X
-onlyIf m r n c =
+-- what comes of a choice that is to be made only if something holds: its own refusal first, then this number, and nothing has changed
+unfoldable pub onlyIf : {X : Type 0} → Machine X → Bool → ℕ → Chosen X → Chosen X
+onlyIf m agreed n c =
     mustNot (isRefused (c .answer)) c
-    (must (sameRecord (recordOf (c .answer)) r) (refuse m n)
+    (must agreed (refuse m n)
     c)
 
 module _ {X : Type 0} (S : Source X) where
@@ -57,9 +56,11 @@ module _ {X : Type 0} (S : Source X) where
   abbrev pub offer : Machine X → ℕ → ℕ → Answer
   offer m w l = choose S m w l .answer
 
-  -- the choice that a record names, made only if its event is the record's
+  -- the choice that a record names, made only if its event is the record's: refused with this number "when the handed event differs"
   abbrev pub takeRecord : Machine X → EventRecord → ℕ → Chosen X
-  takeRecord m r n = onlyIf m r n (chooseBy S m (named r))
+  takeRecord m r n =
+      let c : Chosen X = chooseBy S m (named r) in
+      onlyIf m (sameRecord (recordOf (c .answer)) r) n c
 
   -- "the taking is handed an offered event and acts only if that is still what the line would do. .. Refused: 19, after all of a
   -- choice's own checks .., when the handed event differs."

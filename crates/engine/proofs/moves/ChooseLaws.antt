@@ -16,6 +16,9 @@ use Rattle.vocabulary.specs.declared.refusal.Refusal.{Refusal}
 use Rattle.rules.specs.Choices.{refuse, atWork, ended, start, finish, move, choose}
 use Rattle.rules.specs.Ranges.{sound}
 use Rattle.rules.specs.Answers.{answerOf}
+use Rattle.rules.specs.Offers.{isRefused, onlyIf}
+use Rattle.rules.proofs.choices.Offered.{only-refused}
+use Rattle.vocabulary.specs.Refusals.{numberOf}
 use Rattle.tables.specs.State as tables
 use Rattle.tables.specs.Calls.{memorySource}
 use Rattle.state.specs.declared.State.{State}
@@ -147,11 +150,15 @@ module _ (f : Figures) (counters : List ℕ) (slots : Slots) (w l : ℕ) (mem : 
               pub choose-start : seen .busy ≡ false → Goes (λ a k. start memorySource a w k) f counters slots w l mem (seen .slot)
               choose-start h = record { ready = ready-seen; at = slot-here; chosen = move-start slot-here waits able busy-here h ∙ moves }
 
--- by what the checks tell: a refusal and its answer, and where the line goes on to a start or a finish
+-- by what the checks tell: a refusal, whether agreed or not, and its answer, and where the line goes on to a start or a finish
 module _ (f : Figures) (counters : List ℕ) (slots : Slots) (w l : ℕ) (m : List ℕ) {r : Move} (told : Tells f counters slots w l m r) where
-  pub told-refused : {why : Refusal} → r ≡ Move.Refused why →
-      chosenOf (turned (whole f counters slots) l (Turn.Refused why)) m ≡ choose memorySource (machineOf (whole f counters slots) m) w l
-  told-refused {why} e = refused (whole f counters slots) why m refl ∙ (rw e at told)
+  pub told-refused : {why : Refusal} → r ≡ Move.Refused why → (agreed : Bool) (n : ℕ) →
+      chosenOf (turned (whole f counters slots) l (Turn.Refused why)) m ≡
+      onlyIf (machineOf (whole f counters slots) m) agreed n (choose memorySource (machineOf (whole f counters slots) m) w l)
+  told-refused {why} e agreed n =
+      let turned-down : refuse (machineOf (whole f counters slots) m) (numberOf why) ≡ choose memorySource (machineOf (whole f counters slots) m) w l = rw e at told in
+      refused (whole f counters slots) why m refl ∙ turned-down ∙
+      sym (only-refused (machineOf (whole f counters slots) m) agreed n _ (ap (λ c. isRefused (c .answer)) (sym turned-down)))
 
   pub told-refusal : {why : Refusal} → r ≡ Move.Refused why → answerOf (Answer.Refused why) ≡ choose memorySource (machineOf (whole f counters slots) m) w l .answer
   unfolding answerOf

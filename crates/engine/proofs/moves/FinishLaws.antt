@@ -21,8 +21,7 @@ use Rattle.rules.specs.Sources.{Released as Outcome, Broken, Passed}
 use Rattle.rules.specs.Choices.{next, moved, fall, refuse, settle, finishWith, finishFirst, finish}
 use Rattle.rules.specs.Choices as rules
 use Rattle.rules.specs.Answers.{answerOf}
-use Rattle.rules.specs.Offers.{isRefused, eventOf}
-use Rattle.rules.proofs.lists.Tests.{by-test, never, lower, upper, below}
+use Rattle.rules.proofs.lists.Tests.{by-test, lower, upper, below}
 use Rattle.tables.specs.declared.Tables.{Tables}
 use Rattle.tables.specs.declared.Released.{Released}
 use Rattle.tables.specs.State as tables
@@ -36,7 +35,7 @@ use Rattle.state.specs.Machines.{machineOf}
 use Rattle.engine.specs.Machines.{chosenOf}
 use Rattle.state.specs.Machines.{whole}
 use Rattle.engine.specs.Turns.{turned}
-use Rattle.engine.specs.Moves.{fallsOf, bothOf, fallen, finishedOf, finishedAnswer, finishedEvent, settledTurn}
+use Rattle.engine.specs.Moves.{fallsOf, bothOf, fallen, finishedOf, finishedAnswer, settledTurn}
 use Rattle.engine.proofs.moves.Parts.{parts, refused}
 use Rattle.engine.proofs.moves.Kept.{was-broken, was-passed}
 
@@ -138,35 +137,6 @@ module _ (f : Figures) (counters : List ℕ) (slots : Slots) (line : Line) (slot
       (λ g. rw (at, b, e, left, g))
       (λ g. rw (at, b, e, left, g))))
       (λ b. by-test (eqb (getD counters ahead 0) 0) (λ e. rw (at, b, e)) (λ e. rw (at, b, e, set-getD counters ahead 0)))
-
-  -- a finish that is not refused gives the slot's event
-  module _ (mem : List ℕ) where
-    with-event : (y : tables.State) → isRefused (finishWith memorySource (machineOf s mem) (line .0) slot y .answer) ≡ false →
-        answerOf (finishedAnswer line slot) ≡ finishWith memorySource (machineOf s mem) (line .0) slot y .answer
-    unfolding answerOf machineOf
-    with-event y ok = by-test (both .ok)
-        (λ b. rw (with-falls mem y, b) (rw at))
-        (λ b. absurd (never (rw (with-falls mem y, b) at ok)))
-
-    first-event : (o : Outcome tables.State) → isRefused (finishFirst memorySource (machineOf s mem) (line .0) slot o .answer) ≡ false →
-        answerOf (finishedAnswer line slot) ≡ finishFirst memorySource (machineOf s mem) (line .0) slot o .answer
-    unfolding finishFirst
-    first-event Broken ok = absurd (never ok)
-    first-event (Passed y) ok = with-event y ok
-
-    pub finish-event : isRefused (finish memorySource (machineOf s mem) (line .0) .answer) ≡ false →
-        answerOf (finishedAnswer line slot) ≡ finish memorySource (machineOf s mem) (line .0) .answer
-    unfolding finish machineOf
-    finish-event ok = by-test (eqb (slot .pipe .0) 0)
-        (λ b. rw (at, b) (first-event (safeRelease (slot .token .0) (f .tables, mem)) (rw (at, b) at ok)))
-        (λ b. rw (at, b) (with-event (f .tables, mem) (rw (at, b) at ok)))
-
-    -- so too a choice that is the finish
-    pub finish-tells : {c : rules.Chosen tables.State} → finish memorySource (machineOf s mem) (line .0) ≡ c → isRefused (c .answer) ≡ false →
-        eventOf (finishedEvent (line .0) slot) ≡ c .answer
-    unfolding answerOf
-    finish-tells {c} e ok =
-        finish-event (ap (λ x. isRefused (x .answer)) e ∙ ok) ∙ ap (λ x. x .answer) e
 
   module _ (mem : List ℕ) {x : Falls} (x-is : x ≡ both) where
     -- what the tables make of the token's finish

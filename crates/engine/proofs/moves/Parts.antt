@@ -75,10 +75,6 @@ made-fits l r-is h k = rw r-is (h .0, h .1, k)
 pub made-within : (l : ℕ) {c : Change} {r : Turn} → r ≡ Turn.Made c → Fits l r → (c .first .at < 512) × (c .second .at < 512) × (l < 32)
 made-within l r-is h = rw r-is at h
 
--- what a turn makes of a state, by what the turn is
-pub turned-as : (s : State) (l : ℕ) (m : List ℕ) {r x : Turn} {c : rules.Chosen tables.State} → r ≡ x → chosenOf (turned s l r) m ≡ c → chosenOf (turned s l x) m ≡ c
-turned-as s l m e h = rw e at h
-
 -- what was worked out on a state's parts holds of the state: of an answer, and of a turn
 module _ (s : State) {f : Figures} {slots : Slots} (f-is : f ≡ figuresOf s) (slots-are : slots ≡ slotsOf s) (m : List ℕ) where
   pub answered-of : (rule : Machine tables.State → rules.Answer) {a : rules.Answer} → a ≡ rule (machineOf (whole f (s .counters) slots) m) → a ≡ rule (machineOf s m)

@@ -3,7 +3,7 @@ use mathlib.Core.Path.{_≡_, refl, sym, ap, _∙_}
 use mathlib.Core.Bool.{Bool, true, false}
 use mathlib.Core.List.{List, [], _∷_, _++_}
 use Prim.Native.Nat.{ℕ, _≤_}
-use borrow.Author.Tests.{leb-true}
+use borrow.Author.Tests.{leb-true, le-leb}
 use lib.Dec.{leb}
 use lib.ListN.{getD}
 use Rattle.rules.specs.Lists.{if, all, every, within}
@@ -12,14 +12,14 @@ use Rattle.rules.specs.RunState.{Machine, slotAt}
 use Rattle.vocabulary.specs.declared.Slots.{Slots}
 use Rattle.rules.specs.Choices.{atWork}
 use Rattle.rules.proofs.lists.Holding.{first-holds, rest-hold}
-use Rattle.rules.proofs.lists.Tests.{if-same, if-eta}
+use Rattle.rules.proofs.lists.Tests.{by-test, never, if-same, if-eta}
 use Rattle.tables.specs.State as tables
 use Rattle.tables.specs.Calls.{memorySource}
 use Rattle.state.specs.declared.Figures.{Figures}
 use Rattle.ranges.specs.declared.slots.Found.{Found}
 use Rattle.state.specs.Machines.{machineOf, whole}
-use Rattle.ranges.specs.RangeParts.{figuresSound, foundOf}
-use Rattle.ranges.specs.Surveys.{restSound, near, spoiled, surveyOf}
+use Rattle.ranges.specs.RangeParts.{figuresSound, flagSound, foundOf}
+use Rattle.ranges.specs.Surveys.{rowsSound, restSound, near, spoiled, surveyOf}
 use Rattle.ranges.proofs.in_range.FlagLaws.{flags-are}
 use Rattle.ranges.proofs.in_range.SlotLaws.{works-all}
 
@@ -64,6 +64,40 @@ reorder true true true counters false rest = sym (if-same (if counters (if rest 
 pub figures-ok : (f : Figures) (counters mem : List ℕ) {b : Bool} → b ≡ restSound f counters mem → b ≡ true → figuresSound f ≡ true
 unfolding restSound
 figures-ok f counters mem b-is ok = first-holds (figuresSound f) _ (sym b-is ∙ ok)
+
+-- the rest by what the counters and flags are
+module _ (f : Figures) (counters mem : List ℕ) {rows : Bool} (rows-are : rows ≡ rowsSound (f .pipes) (f .lines) (f .serial) counters) where
+  abbrev countersOk : Bool
+  countersOk = every 512 (counterSound (f .pipes) (f .lines) (f .serial) counters)
+
+  abbrev flagsOk : Bool
+  flagsOk = every 16 (flagSound (f .pipes) (f .serial))
+
+  rows-hold : restSound f counters mem ≡ true → rowsSound (f .pipes) (f .lines) (f .serial) counters ≡ true
+  unfolding restSound rowsSound
+  rows-hold ok =
+      let figures : figuresSound f ≡ true = first-holds (figuresSound f) _ ok in
+      let past = rest-hold (figuresSound f) _ ok in
+      rw (
+        le-leb (f .pipes) 16 (pipes-most f figures),
+        le-leb (f .lines) 32 (lines-most f figures),
+        first-holds countersOk _ past,
+        first-holds flagsOk _ (rest-hold countersOk _ past),
+      )
+
+  pub rows-fail : rows ≡ false → false ≡ restSound f counters mem
+  rows-fail e = by-test (restSound f counters mem) (λ ok. absurd (never (sym (rows-hold ok) ∙ sym rows-are ∙ e))) sym
+
+  pub figures-fail : figuresSound f ≡ false → false ≡ restSound f counters mem
+  unfolding restSound
+  figures-fail e = rw e
+
+  -- what is left to ask
+  pub tables-left : rows ≡ true → figuresSound f ≡ true → tables.soundOf (f .tables, mem) ≡ restSound f counters mem
+  unfolding restSound rowsSound
+  tables-left e figures =
+      let past = rest-hold (leb (f .lines) 32) _ (rest-hold (leb (f .pipes) 16) _ (sym rows-are ∙ e)) in
+      rw (figures, first-holds countersOk _ past, first-holds flagsOk _ (rest-hold countersOk _ past)) (sym (if-eta _))
 
 module _ (f : Figures) (counters : List ℕ) (slots : Slots) (mem : List ℕ) where
   abbrev machine : Machine tables.State

@@ -108,20 +108,26 @@ module _ {X : Type 0} (S : Source X) (m : Machine X) (w l : ℕ) where
       let ok : Accepted (choose S m w l .answer) = is-accepted (choose S m w l .answer) taken in
       omega (arith, accepted-line S m w l ok, lines-most S m (accepted-sound S m w l ok))
 
--- what is made only by its event: its own refusal, another event, the event
-module _ {X : Type 0} (m : Machine X) (r : EventRecord) (n : ℕ) (c : Chosen X) where
-  pub only-refused : isRefused (c .answer) ≡ true → onlyIf m r n c ≡ c
+-- what is made only if something holds: its own refusal, where it does not hold, where it does
+module _ {X : Type 0} (m : Machine X) (agreed : Bool) (n : ℕ) (c : Chosen X) where
+  pub only-refused : isRefused (c .answer) ≡ true → onlyIf m agreed n c ≡ c
   unfolding onlyIf
   only-refused e = rw e
 
-  module _ (ok : isRefused (c .answer) ≡ false) where
-    pub only-other : sameRecord (recordOf (c .answer)) r ≡ false → onlyIf m r n c ≡ refuse m n
-    unfolding onlyIf
-    only-other e = rw (ok, e)
+  pub only-other : isRefused (c .answer) ≡ false → agreed ≡ false → onlyIf m agreed n c ≡ refuse m n
+  unfolding onlyIf
+  only-other ok e = rw (ok, e)
 
-    pub only-same : sameRecord (recordOf (c .answer)) r ≡ true → onlyIf m r n c ≡ c
-    unfolding onlyIf
-    only-same e = rw (ok, e)
+  pub only-same : agreed ≡ true → onlyIf m agreed n c ≡ c
+  unfolding onlyIf
+  only-same e = by-test (isRefused (c .answer)) (λ h. rw h) (λ h. rw (h, e))
+
+-- what holds counts only where the choice is accepted
+pub only-as : {X : Type 0} (m : Machine X) (a b : Bool) (n : ℕ) (c : Chosen X) → (isRefused (c .answer) ≡ false → a ≡ b) → onlyIf m a n c ≡ onlyIf m b n c
+only-as m a b n c alike = elim (see (isRefused (c .answer))) [
+  | holds turned ↦ only-refused m a n c turned ∙ sym (only-refused m b n c turned)
+  | fails ok ↦ ap (λ x. onlyIf m x n c) (alike ok)
+]
 
 module _ {X : Type 0} (S : Source X) (m : Machine X) where
   -- an event that a choice gives is taken as the choice is made
@@ -130,8 +136,8 @@ module _ {X : Type 0} (S : Source X) (m : Machine X) where
       let own : recordOf (choose S m w l .answer) ≡ eventRecord e = ap recordOf told ∙ record-is e in
       let ok : isRefused (choose S m w l .answer) ≡ false = ap isRefused told ∙ event-accepted e in
       let choice-is : named (eventRecord e) ≡ record { worker = w; line = l } = ap named (sym own) ∙ names-choice S m w l (is-accepted _ ok) in
-      ap (λ v. onlyIf m (eventRecord e) 19 (chooseBy S m v)) choice-is ∙
-      only-same m (eventRecord e) 19 (choose S m w l) ok (ap (λ r. sameRecord r (eventRecord e)) own ∙ same-itself (eventRecord e))
+      ap (λ v. onlyIf m (sameRecord (recordOf (chooseBy S m v .answer)) (eventRecord e)) 19 (chooseBy S m v)) choice-is ∙
+      only-same m (sameRecord (recordOf (choose S m w l .answer)) (eventRecord e)) 19 (choose S m w l) (ap (λ r. sameRecord r (eventRecord e)) own ∙ same-itself (eventRecord e))
 
 -- the answer that a record is of
 abbrev answerAt : EventRecord → Answer
@@ -156,32 +162,35 @@ module _ {X : Type 0} (S : Source X) (m : Machine X) (e : Event) where
   abbrev chosen : Chosen X
   chosen = chooseBy S m (named (eventRecord e))
 
+  abbrev agreed : Bool
+  agreed = sameRecord (recordOf (chosen .answer)) (eventRecord e)
+
   -- the choice's own refusal comes first
   pub taken-own : (n : ℕ) → chosen .answer ≡ Refused n → takeOffered S m e ≡ refuse m n
   taken-own n told =
-      only-refused m (eventRecord e) 19 chosen (ap isRefused told) ∙
+      only-refused m agreed 19 chosen (ap isRefused told) ∙
       (λ i. record { answer = told i; machine = refused-unchanged S m (eventRecord e .worker) (eventRecord e .line) n told i })
 
   -- then 19, if its event is another
   pub taken-other : isRefused (chosen .answer) ≡ false → (chosen .answer ≡ eventOf e → ⊥) → takeOffered S m e ≡ refuse m 19
   taken-other ok other =
-      only-other m (eventRecord e) 19 chosen ok (by-test (sameRecord (recordOf (chosen .answer)) (eventRecord e))
+      only-other m agreed 19 chosen ok (by-test agreed
       (λ same. absurd (other (same-event (chosen .answer) e ok same))) (λ differs. differs))
 
   -- so a taking that is accepted gives just the event, and is the choice
   module _ (accepts : isRefused (takeOffered S m e .answer) ≡ false) where
     own-accepted : isRefused (chosen .answer) ≡ false
     own-accepted = by-test (isRefused (chosen .answer))
-        (λ turned. absurd (never (sym turned ∙ ap (λ c. isRefused (c .answer)) (sym (only-refused m (eventRecord e) 19 chosen turned)) ∙ accepts)))
+        (λ turned. absurd (never (sym turned ∙ ap (λ c. isRefused (c .answer)) (sym (only-refused m agreed 19 chosen turned)) ∙ accepts)))
         (λ ok. ok)
 
-    differs-not : sameRecord (recordOf (chosen .answer)) (eventRecord e) ≡ true
-    differs-not = by-test (sameRecord (recordOf (chosen .answer)) (eventRecord e))
+    differs-not : agreed ≡ true
+    differs-not = by-test agreed
         (λ same. same)
-        (λ other. absurd (never (ap (λ c. isRefused (c .answer)) (sym (only-other m (eventRecord e) 19 chosen own-accepted other)) ∙ accepts)))
+        (λ other. absurd (never (ap (λ c. isRefused (c .answer)) (sym (only-other m agreed 19 chosen own-accepted other)) ∙ accepts)))
 
     pub taken-chosen : takeOffered S m e ≡ chosen
-    taken-chosen = only-same m (eventRecord e) 19 chosen own-accepted differs-not
+    taken-chosen = only-same m agreed 19 chosen differs-not
 
     pub taken-event : takeOffered S m e .answer ≡ eventOf e
     taken-event = ap (λ c. c .answer) taken-chosen ∙ same-event (chosen .answer) e own-accepted differs-not
@@ -196,10 +205,10 @@ module _ {X : Type 0} (S : Source X) (m : Machine X) (e : Event) where
   pub taken-unchanged : isRefused (takeOffered S m e .answer) ≡ true → takeOffered S m e .machine ≡ m
   taken-unchanged refused = elim (see (isRefused (chosen .answer))) [
     | holds turned ↦
-        let same = only-refused m (eventRecord e) 19 chosen turned in
+        let same = only-refused m agreed 19 chosen turned in
         ap (λ c. c .machine) same ∙ own-unchanged (chosen .answer) refl turned
-    | fails ok ↦ elim (see (sameRecord (recordOf (chosen .answer)) (eventRecord e))) [
-      | holds same ↦ absurd (never (sym refused ∙ ap (λ c. isRefused (c .answer)) (only-same m (eventRecord e) 19 chosen ok same) ∙ ok))
-      | fails other ↦ ap (λ c. c .machine) (only-other m (eventRecord e) 19 chosen ok other)
+    | fails ok ↦ elim (see agreed) [
+      | holds same ↦ absurd (never (sym refused ∙ ap (λ c. isRefused (c .answer)) (only-same m agreed 19 chosen same) ∙ ok))
+      | fails other ↦ ap (λ c. c .machine) (only-other m agreed 19 chosen ok other)
     ]
   ]
