@@ -1,4 +1,4 @@
-//! Links the archives that `rt staticlib whole_run` and `rt staticlib offered_run` write, and, where
+//! Links the archives that `rt staticlib` writes for whole_run, offered_run and taken_run, and, where
 //! BENCH_BEFORE names an older one of the first, that too, with its functions under other names.
 
 use std::env;
@@ -14,6 +14,7 @@ fn main() {
     let archives = here.join("../../target/staticlib");
     link(&archives, "whole_run");
     link(&archives, "offered_run");
+    link(&archives, "taken_run");
     println!("cargo:rustc-check-cfg=cfg(before)");
     println!("cargo:rerun-if-env-changed=BENCH_BEFORE");
     if let Some(archive) = env::var_os("BENCH_BEFORE").filter(|name| !name.is_empty()) {

@@ -1,21 +1,9 @@
-// Whole runs in one call in which each choice is offered first, for programs in other languages: tests/bench/ times them.
+// A whole run in one call in which each choice is offered and then made, for programs in other languages: tests/bench/ times it.
 mod offered;
 
 ghost use mathlib.Core.Path.{_≡_};
 ghost use Rattle.whole_run.specs.Runs.{runOf};
 use opening::Opening;
-
-fn wide(x: u8) -> u16
-    ensures { λ r. ⌜ r ≡ x ⌝ }
-{
-    x as u16
-}
-
-fn long(x: u16) -> u64
-    ensures { λ r. ⌜ r ≡ x ⌝ }
-{
-    x as u64
-}
 
 // Opens the plan of a file for so many workers; each two bytes are a choice, which is offered and then made. Returns the checksum of
 // the offers' answers, or the number of a refused opening.
@@ -33,27 +21,7 @@ pub extern "C" fn pipeline_run_offered(
     let answer = opened.answer;
     let state = opened.state;
     match answer {
-        Opening::Refused(why) => long(why.number()),
+        Opening::Refused(why) => whole_run::long(why.number()),
         Opening::Accepted => offered::follow_offered(state, choices, mem),
-    }
-}
-
-// The same, and an event that is offered is then taken.
-#[no_mangle]
-pub extern "C" fn pipeline_run_taken(
-    file: &[u8],
-    workers: u16,
-    choices: &[u8],
-    mem: &mut [u16],
-) -> u64
-    ensures answer { λ r. ⌜ r ≡ runOf (now (file .entry)) workers (now (choices .entry)) (now (mem .entry)) .0 ⌝ }
-    ensures memory { λ _. ⌜ now (mem .exit) ≡ runOf (now (file .entry)) workers (now (choices .entry)) (now (mem .entry)) .1 ⌝ }
-{
-    let opened = opening::open(file, workers, mem);
-    let answer = opened.answer;
-    let state = opened.state;
-    match answer {
-        Opening::Refused(why) => long(why.number()),
-        Opening::Accepted => offered::follow_taken(state, choices, mem),
     }
 }

@@ -1,83 +1,31 @@
-// The choices of a run, each of them offered first. The checksum is that of the offers' answers.
-use crate::wide;
-use engine::Chosen;
+// The choices of a run, each of them offered and then made. The checksum is that of the offers' answers.
 use state::State;
-use vocabulary::Answer;
-use vocabulary::Event;
 use vocabulary::Line;
-use vocabulary::Refusal;
 use vocabulary::Worker;
+use whole_run::wide;
 ghost use mathlib.Core.Path.{_≡_};
 ghost use Rattle.rules.specs.Choices.{choicesIn, answers, follow as followed};
 ghost use Rattle.tables.specs.Calls.{memorySource};
 ghost use Rattle.state.specs.Machines.{machineOf};
 ghost use Rattle.whole_run.specs.Checksums.{checksum as checksumOf};
-ghost use Rattle.offered_run.specs.Takings.{takingOf};
-
-// What there is to take of an offer's answer: its event, or nothing.
-enum Taking {
-    Take(Event),
-    Nothing,
-}
-
-fn taking_of(answer: Answer) -> Taking
-    ensures { λ r. ⌜ r ≡ takingOf answer ⌝ }
-{
-    match answer {
-        Answer::Started(step) => Taking::Take(Event::Started(step)),
-        Answer::Finished(step) => Taking::Take(Event::Finished(step)),
-        Answer::Stopped(stop) => Taking::Take(Event::Stopped(stop)),
-        Answer::Refused(_) => Taking::Nothing,
-    }
-}
 
 // Offers each choice, then makes it.
 pub(crate) fn follow_offered(state: State, choices: &[u8], mem: &mut [u16]) -> u64
     ensures answer { λ r. ⌜ r ≡ checksumOf 0 (answers memorySource (machineOf state (now (mem .entry))) (choicesIn (now (choices .entry)))) ⌝ }
     ensures memory { λ _. ⌜ now (mem .exit) ≡ followed memorySource (machineOf state (now (mem .entry))) (choicesIn (now (choices .entry))) .source .1 ⌝ }
 {
-    let mut chosen = Chosen {
-        answer: Answer::Refused(Refusal::Spoiled),
-        state: state,
-    };
+    let mut now = state;
     let mut sum: u64 = 0;
     let count = choices.len() / 2;
     let mut k: usize = 0;
     while k < count {
-        let before = chosen.state;
         let worker = wide(choices[2 * k]);
         let line = wide(choices[2 * k + 1]);
-        let answer = engine::offer(before, mem, Worker(worker), Line(line));
+        let answer = engine::offer(now, mem, Worker(worker), Line(line));
         sum = whole_run::add(sum, answer);
-        chosen = engine::choose(before, mem, Worker(worker), Line(line));
+        let chosen = engine::choose(now, mem, Worker(worker), Line(line));
+        now = chosen.state;
         k += 1;
-    }
-    sum
-}
-
-// Offers each choice, then takes the event that was offered; where none was, nothing is called.
-pub(crate) fn follow_taken(state: State, choices: &[u8], mem: &mut [u16]) -> u64
-    ensures answer { λ r. ⌜ r ≡ checksumOf 0 (answers memorySource (machineOf state (now (mem .entry))) (choicesIn (now (choices .entry)))) ⌝ }
-    ensures memory { λ _. ⌜ now (mem .exit) ≡ followed memorySource (machineOf state (now (mem .entry))) (choicesIn (now (choices .entry))) .source .1 ⌝ }
-{
-    let mut chosen = Chosen {
-        answer: Answer::Refused(Refusal::Spoiled),
-        state: state,
-    };
-    let mut sum: u64 = 0;
-    let count = choices.len() / 2;
-    let mut k: usize = 0;
-    while k < count {
-        let before = chosen.state;
-        let worker = wide(choices[2 * k]);
-        let line = wide(choices[2 * k + 1]);
-        let offered = engine::offer(before, mem, Worker(worker), Line(line));
-        sum = whole_run::add(sum, offered);
-        k += 1;
-        match taking_of(offered) {
-            Taking::Take(event) => chosen = engine::take_offered(before, mem, event),
-            Taking::Nothing => {}
-        }
     }
     sum
 }

@@ -1,5 +1,5 @@
-//! The functions of the two proved archives: choices alone are in one of their own, as the compiler would
-//! make another program of them beside calls of the same functions from elsewhere.
+//! The functions of the three proved archives: each run has one of its own, as the compiler would make
+//! another program of it beside calls of the same functions from elsewhere.
 
 use crate::plain::Choice;
 

@@ -88,8 +88,9 @@ pub fn print_offers(measured: &[Measured]) {
     println!(
         "\nThe same runs, each choice offered first: an offer is by how much a run with offers and \
          choices (of liboffered_run.a) is longer than one with choices alone (of libwhole_run.a); an \
-         offer and its taking are a run in which what is offered is taken, and nothing is called where \
-         the offer is a refusal. Lowest, of an offer: the difference of the two lowest.\n"
+         offer and its taking are a run in which what is offered is taken (of libtaken_run.a), and \
+         nothing is called where the offer is a refusal. Lowest, of an offer: the difference of the two \
+         lowest.\n"
     );
     println!(
         "| deferral | pipes and lines | N | order | choice, median | choice, lowest \

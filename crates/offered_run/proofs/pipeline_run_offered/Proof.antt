@@ -13,8 +13,8 @@ enum-known-answer c = search needs
 number-requires : tie.Need-number-requires
 number-requires c κs = search needs
 
-long-requires : tie.Need-long-requires
-long-requires c κs = search needs
+wide-requires : tie.Need-wide-requires
+wide-requires c κs = search needs
 
 enum-told : tie.Need-enum-told
 enum-told c = search needs
@@ -30,7 +30,7 @@ returns c =
     let after-answer = c .before .before .before in
     let after-open = after-answer .before .before .before .before .before in
     laws.refused-run _ _ _ _ (after-open .«open» .ensures .0) (after-open .«open» .ensures .1) (after-answer .answer .given .1) (c .before .number .ensures)
-    (c .long .ensures)
+    (c .wide .ensures .0)
 
 same-length-2 : tie.Need-same-length-2
 same-length-2 c = search needs
@@ -50,7 +50,7 @@ pipeline-run-offered-spec =
     open-requires
     enum-known-answer
     number-requires
-    long-requires
+    wide-requires
     enum-told
     follow-offered-requires
     same-length

@@ -9,10 +9,10 @@ use Rattle.offered_run.proofs.offered.follow_offered.Statement.{stateme
 use Rattle.offered_run.proofs.offered.follow_offered.Tie as tie
 
 abbrev Inv-loop : tie.InvT-loop
-Inv-loop choices mem₀ chosen₀ sum₀ count k₀ mem chosen sum k = laws.GoesOn choices mem₀ (chosen₀ .state) sum₀ count mem (chosen .state) sum k
+Inv-loop choices mem₀ now₀ sum₀ count k₀ mem now sum k = laws.GoesOn choices mem₀ now₀ sum₀ count mem now sum k
 
 abbrev μ-loop : tie.MeasureT-loop
-μ-loop choices mem₀ chosen₀ sum₀ count k₀ mem chosen sum k = count - k
+μ-loop choices mem₀ now₀ sum₀ count k₀ mem now sum k = count - k
 
 loop-holds : tie.Need-loop-holds Inv-loop μ-loop
 loop-holds c = record { count-is = refl; made = omega arith; lent = refl; sum-goes = refl; machine-goes = refl }
@@ -55,12 +55,12 @@ loop-less c = search needs
 
 loop-again : tie.Need-loop-again Inv-loop μ-loop
 loop-again c =
-    let at-choose = c .before .before in
+    let at-choose = c .before .before .before in
     let at-add = at-choose .before .before in
     let at-offer = at-add .before in
     let at-line = at-offer .before .before in
     let at-worker = at-line .before .before in
-    let in-loop = at-worker .before .before .before in
+    let in-loop = at-worker .before .before in
     let inv = in-loop .before .loop .inv in
     laws.again inv (in-loop .loop-test .taken)
     (offering.offered-turn _ _ _ _ (at-worker .wide .ensures) (at-line .wide2 .ensures) _ (at-offer .offer .ensures) _ _ (at-choose .choose .ensures))

@@ -1,8 +1,8 @@
--- `offered_run::offered::taking_of` meets its contract.
+-- `taken_run::taken::taking_of` meets its contract.
 use borrow.Author.Needs.{needs}
-use Rattle.offered_run.specs.Takings.{takingOf}
-use Rattle.offered_run.proofs.offered.taking_of.Statement.{statement}
-use Rattle.offered_run.proofs.offered.taking_of.Tie as tie
+use Rattle.taken_run.specs.Takings.{takingOf}
+use Rattle.taken_run.proofs.taken.taking_of.Statement.{statement}
+use Rattle.taken_run.proofs.taken.taking_of.Tie as tie
 
 enum-known-answer : tie.Need-enum-known-answer
 enum-known-answer c = search needs

@@ -1,7 +1,7 @@
 -- What there is to take of an offer's answer: its event, or nothing.
 use Rattle.vocabulary.specs.declared.answer.Answer.{Answer}
 use Rattle.vocabulary.specs.declared.event.Event.{Event}
-use Rattle.offered_run.specs.declared.offered.Taking.{Taking}
+use Rattle.taken_run.specs.declared.taken.Taking.{Taking}
 
 unfoldable pub takingOf : Answer → Taking
 takingOf (Answer.Started s) = Taking.Take (Event.Started s)

@@ -1,18 +1,18 @@
--- `offered_run::offered::follow_taken` meets its contract.
+-- `taken_run::taken::follow_taken` meets its contract.
 use mathlib.Core.Path.{refl}
 use native.Mathlib.Omega.{arith}
 use Prim.Native.Nat.{_-_}
 use Rattle.whole_run.proofs.Summing as laws
-use Rattle.offered_run.proofs.Offering as offering
+use Rattle.taken_run.proofs.Taking as taking
 use borrow.Author.Needs.{needs}
-use Rattle.offered_run.proofs.offered.follow_taken.Statement.{statement}
-use Rattle.offered_run.proofs.offered.follow_taken.Tie as tie
+use Rattle.taken_run.proofs.taken.follow_taken.Statement.{statement}
+use Rattle.taken_run.proofs.taken.follow_taken.Tie as tie
 
 abbrev Inv-loop : tie.InvT-loop
-Inv-loop choices mem₀ chosen₀ sum₀ count k₀ mem chosen sum k = laws.GoesOn choices mem₀ (chosen₀ .state) sum₀ count mem (chosen .state) sum k
+Inv-loop choices mem₀ now₀ sum₀ count k₀ mem now sum k = laws.GoesOn choices mem₀ now₀ sum₀ count mem now sum k
 
 abbrev μ-loop : tie.MeasureT-loop
-μ-loop choices mem₀ chosen₀ sum₀ count k₀ mem chosen sum k = count - k
+μ-loop choices mem₀ now₀ sum₀ count k₀ mem now sum k = count - k
 
 loop-holds : tie.Need-loop-holds Inv-loop μ-loop
 loop-holds c = record { count-is = refl; made = omega arith; lent = refl; sum-goes = refl; machine-goes = refl }
@@ -61,16 +61,16 @@ loop-less c = omega (arith, c .before .before .before .before .before .before .b
 
 loop-again : tie.Need-loop-again Inv-loop μ-loop
 loop-again c =
-    let at-take = c .before .before in
+    let at-take = c .before .before .before in
     let at-told = at-take .before .before .before in
     let at-taking = at-told .before .before in
     let at-add = at-taking .before in
     let at-offer = at-add .before in
     let at-line = at-offer .before .before in
     let at-worker = at-line .before .before in
-    let in-loop = at-worker .before .before .before in
+    let in-loop = at-worker .before .before in
     laws.again (in-loop .before .loop .inv) (in-loop .loop-test .taken)
-    (offering.taken-turn _ _ _ _ (at-worker .wide .ensures) (at-line .wide2 .ensures) _ (at-offer .offer .ensures) (at-taking .taking-of .ensures) (at-told .event .given .1) _ _
+    (taking.taken-turn _ _ _ _ (at-worker .wide .ensures) (at-line .wide2 .ensures) _ (at-offer .offer .ensures) (at-taking .taking-of .ensures) (at-told .event .given .1) _ _
     (at-take .take-offered .ensures))
     (at-add .add .ensures) (at-take .take-offered .kept .1 .0)
 
@@ -78,7 +78,7 @@ enum-told : tie.Need-enum-told Inv-loop μ-loop
 enum-told c = search needs
 
 loop-less-2 : tie.Need-loop-less-2 Inv-loop μ-loop
-loop-less-2 c = omega (arith, c .before .before .before .before .before .before .before .before .before .before .before .loop-test .taken)
+loop-less-2 c = omega (arith, c .before .before .before .before .before .before .before .before .before .before .loop-test .taken)
 
 loop-again-2 : tie.Need-loop-again-2 Inv-loop μ-loop
 loop-again-2 c =
@@ -87,9 +87,9 @@ loop-again-2 c =
     let at-offer = at-add .before in
     let at-line = at-offer .before .before in
     let at-worker = at-line .before .before in
-    let in-loop = at-worker .before .before .before in
+    let in-loop = at-worker .before .before in
     laws.again (in-loop .before .loop .inv) (in-loop .loop-test .taken)
-    (offering.nothing-turn _ _ _ _ (at-worker .wide .ensures) (at-line .wide2 .ensures) _ (at-offer .offer .ensures) (at-taking .taking-of .ensures) (c .enum-told .given .1))
+    (taking.nothing-turn _ _ _ _ (at-worker .wide .ensures) (at-line .wide2 .ensures) _ (at-offer .offer .ensures) (at-taking .taking-of .ensures) (c .enum-told .given .1))
     (at-add .add .ensures) refl
 
 same-length : tie.Need-same-length Inv-loop μ-loop

@@ -1,8 +1,8 @@
--- `offered_run::pipeline_run_taken` meets its contract.
+-- `taken_run::pipeline_run_taken` meets its contract.
 use borrow.Author.Needs.{needs}
 use Rattle.whole_run.proofs.Summing as laws
-use Rattle.offered_run.proofs.pipeline_run_taken.Statement.{statement}
-use Rattle.offered_run.proofs.pipeline_run_taken.Tie as tie
+use Rattle.taken_run.proofs.pipeline_run_taken.Statement.{statement}
+use Rattle.taken_run.proofs.pipeline_run_taken.Tie as tie
 
 open-requires : tie.Need-open-requires
 open-requires c κs = search needs
@@ -13,8 +13,8 @@ enum-known-answer c = search needs
 number-requires : tie.Need-number-requires
 number-requires c κs = search needs
 
-long-requires : tie.Need-long-requires
-long-requires c κs = search needs
+wide-requires : tie.Need-wide-requires
+wide-requires c κs = search needs
 
 enum-told : tie.Need-enum-told
 enum-told c = search needs
@@ -30,7 +30,7 @@ returns c =
     let after-answer = c .before .before .before in
     let after-open = after-answer .before .before .before .before .before in
     laws.refused-run _ _ _ _ (after-open .«open» .ensures .0) (after-open .«open» .ensures .1) (after-answer .answer .given .1) (c .before .number .ensures)
-    (c .long .ensures)
+    (c .wide .ensures .0)
 
 same-length-2 : tie.Need-same-length-2
 same-length-2 c = search needs
@@ -50,7 +50,7 @@ pipeline-run-taken-spec =
     open-requires
     enum-known-answer
     number-requires
-    long-requires
+    wide-requires
     enum-told
     follow-taken-requires
     same-length
