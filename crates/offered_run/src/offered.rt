@@ -2,7 +2,6 @@
 use state::State;
 use vocabulary::Line;
 use vocabulary::Worker;
-use whole_run::wide;
 ghost use mathlib.Core.Path.{_≡_};
 ghost use Rattle.rules.specs.Choices.{choicesIn, answers, follow as followed};
 ghost use Rattle.tables.specs.Calls.{memorySource};
@@ -19,8 +18,8 @@ pub(crate) fn follow_offered(state: State, choices: &[u8], mem: &mut [u16]) -> u
     let count = choices.len() / 2;
     let mut k: usize = 0;
     while k < count {
-        let worker = wide(choices[2 * k]);
-        let line = wide(choices[2 * k + 1]);
+        let worker = choices[2 * k] as u16;
+        let line = choices[2 * k + 1] as u16;
         let answer = engine::offer(now, mem, Worker(worker), Line(line));
         sum = whole_run::add(sum, answer);
         let chosen = engine::choose(now, mem, Worker(worker), Line(line));

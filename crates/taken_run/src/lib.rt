@@ -21,7 +21,7 @@ pub extern "C" fn pipeline_run_taken(
     let answer = opened.answer;
     let state = opened.state;
     match answer {
-        Opening::Refused(why) => whole_run::long(why.number()),
+        Opening::Refused(why) => why.number() as u64,
         Opening::Accepted => taken::follow_taken(state, choices, mem),
     }
 }

@@ -4,7 +4,6 @@ use vocabulary::Answer;
 use vocabulary::Event;
 use vocabulary::Line;
 use vocabulary::Worker;
-use whole_run::wide;
 ghost use mathlib.Core.Path.{_≡_};
 ghost use Rattle.rules.specs.Choices.{choicesIn, answers, follow as followed};
 ghost use Rattle.tables.specs.Calls.{memorySource};
@@ -39,8 +38,8 @@ pub(crate) fn follow_taken(state: State, choices: &[u8], mem: &mut [u16]) -> u64
     let count = choices.len() / 2;
     let mut k: usize = 0;
     while k < count {
-        let worker = wide(choices[2 * k]);
-        let line = wide(choices[2 * k + 1]);
+        let worker = choices[2 * k] as u16;
+        let line = choices[2 * k + 1] as u16;
         let offered = engine::offer(now, mem, Worker(worker), Line(line));
         sum = whole_run::add(sum, offered);
         k += 1;

@@ -11,7 +11,7 @@ const MODULUS: u64 = 2199023255552;
 
 const BASE: u64 = 1000003;
 
-pub fn wide(x: u16) -> u64
+pub(crate) fn wide(x: u16) -> u64
     ensures same { λ r. ⌜ r ≡ x ⌝ }
     ensures small { λ r. ⌜ r < 65536 ⌝ }
 {

@@ -2,7 +2,6 @@
 mod checksum;
 
 pub use checksum::add;
-pub use checksum::wide as long;
 ghost use mathlib.Core.Path.{_≡_};
 ghost use Rattle.rules.specs.Choices.{choicesIn, answers, follow as followed};
 ghost use Rattle.tables.specs.Calls.{memorySource};
@@ -17,7 +16,7 @@ use vocabulary::Line;
 use vocabulary::Refusal;
 use vocabulary::Worker;
 
-pub fn wide(x: u8) -> u16
+fn wide(x: u8) -> u16
     ensures { λ r. ⌜ r ≡ x ⌝ }
 {
     x as u16

@@ -1,4 +1,5 @@
 -- `taken_run::pipeline_run_taken` meets its contract.
+use mathlib.Core.Path.{refl}
 use borrow.Author.Needs.{needs}
 use Rattle.whole_run.proofs.Summing as laws
 use Rattle.taken_run.proofs.pipeline_run_taken.Statement.{statement}
@@ -13,8 +14,8 @@ enum-known-answer c = search needs
 number-requires : tie.Need-number-requires
 number-requires c κs = search needs
 
-wide-requires : tie.Need-wide-requires
-wide-requires c κs = search needs
+cast-result : tie.Need-cast-result
+cast-result c = search needs
 
 enum-told : tie.Need-enum-told
 enum-told c = search needs
@@ -27,10 +28,9 @@ same-length c = search needs
 
 returns : tie.Need-returns
 returns c =
-    let after-answer = c .before .before .before in
+    let after-answer = c .before .before in
     let after-open = after-answer .before .before .before .before .before in
-    laws.refused-run _ _ _ _ (after-open .«open» .ensures .0) (after-open .«open» .ensures .1) (after-answer .answer .given .1) (c .before .number .ensures)
-    (c .wide .ensures .0)
+    laws.refused-run _ _ _ _ (after-open .«open» .ensures .0) (after-open .«open» .ensures .1) (after-answer .answer .given .1) (c .number .ensures) refl
 
 same-length-2 : tie.Need-same-length-2
 same-length-2 c = search needs
@@ -50,7 +50,7 @@ pipeline-run-taken-spec =
     open-requires
     enum-known-answer
     number-requires
-    wide-requires
+    cast-result
     enum-told
     follow-taken-requires
     same-length

@@ -1,7 +1,7 @@
 -- `taken_run::taken::follow_taken` meets its contract.
 use mathlib.Core.Path.{refl}
 use native.Mathlib.Omega.{arith}
-use Prim.Native.Nat.{_-_}
+use Prim.Native.Nat.{_+_, _-_, _*_}
 use Rattle.whole_run.proofs.Summing as laws
 use Rattle.taken_run.proofs.Taking as taking
 use borrow.Author.Needs.{needs}
@@ -17,26 +17,26 @@ abbrev μ-loop : tie.MeasureT-loop
 loop-holds : tie.Need-loop-holds Inv-loop μ-loop
 loop-holds c = record { count-is = refl; made = omega arith; lent = refl; sum-goes = refl; machine-goes = refl }
 
-mul-wide : tie.Need-mul-wide Inv-loop μ-loop
-mul-wide c = search needs
+mul-worker : tie.Need-mul-worker Inv-loop μ-loop
+mul-worker c = search needs
 
-shared-slice-read-wide : tie.Need-shared-slice-read-wide Inv-loop μ-loop
-shared-slice-read-wide c = search needs
+shared-slice-read-worker : tie.Need-shared-slice-read-worker Inv-loop μ-loop
+shared-slice-read-worker c = search needs
 
-wide-requires : tie.Need-wide-requires Inv-loop μ-loop
-wide-requires c κs = search needs
+cast-worker : tie.Need-cast-worker Inv-loop μ-loop
+cast-worker c = omega (arith, c .shared-slice-known2 .given (2 * c .before .before .loop .k))
 
-mul-wide-2 : tie.Need-mul-wide-2 Inv-loop μ-loop
-mul-wide-2 c = search needs
+mul-line : tie.Need-mul-line Inv-loop μ-loop
+mul-line c = search needs
 
-add-wide : tie.Need-add-wide Inv-loop μ-loop
-add-wide c = search needs
+add-line : tie.Need-add-line Inv-loop μ-loop
+add-line c = search needs
 
-shared-slice-read-wide-2 : tie.Need-shared-slice-read-wide-2 Inv-loop μ-loop
-shared-slice-read-wide-2 c = search needs
+shared-slice-read-line : tie.Need-shared-slice-read-line Inv-loop μ-loop
+shared-slice-read-line c = search needs
 
-wide-requires-2 : tie.Need-wide-requires-2 Inv-loop μ-loop
-wide-requires-2 c κs = search needs
+cast-line : tie.Need-cast-line Inv-loop μ-loop
+cast-line c = omega (arith, c .shared-slice-known3 .given (2 * c .before .before .before .loop .k + 1))
 
 offer-requires : tie.Need-offer-requires Inv-loop μ-loop
 offer-requires c κs = search needs
@@ -57,7 +57,7 @@ take-offered-requires : tie.Need-take-offered-requires Inv-loop μ-loop
 take-offered-requires c κs = search needs
 
 loop-less : tie.Need-loop-less Inv-loop μ-loop
-loop-less c = omega (arith, c .before .before .before .before .before .before .before .before .before .before .before .before .before .before .before .before .loop-test .taken)
+loop-less c = omega (arith, c .before .before .before .before .before .before .before .before .before .before .before .before .before .before .loop-test .taken)
 
 loop-again : tie.Need-loop-again Inv-loop μ-loop
 loop-again c =
@@ -66,11 +66,9 @@ loop-again c =
     let at-taking = at-told .before .before in
     let at-add = at-taking .before in
     let at-offer = at-add .before in
-    let at-line = at-offer .before .before in
-    let at-worker = at-line .before .before in
-    let in-loop = at-worker .before .before in
+    let in-loop = at-offer .before .before .before .before in
     laws.again (in-loop .before .loop .inv) (in-loop .loop-test .taken)
-    (taking.taken-turn _ _ _ _ (at-worker .wide .ensures) (at-line .wide2 .ensures) _ (at-offer .offer .ensures) (at-taking .taking-of .ensures) (at-told .event .given .1) _ _
+    (taking.taken-turn _ _ _ _ refl refl _ (at-offer .offer .ensures) (at-taking .taking-of .ensures) (at-told .event .given .1) _ _
     (at-take .take-offered .ensures))
     (at-add .add .ensures) (at-take .take-offered .kept .1 .0)
 
@@ -78,18 +76,16 @@ enum-told : tie.Need-enum-told Inv-loop μ-loop
 enum-told c = search needs
 
 loop-less-2 : tie.Need-loop-less-2 Inv-loop μ-loop
-loop-less-2 c = omega (arith, c .before .before .before .before .before .before .before .before .before .before .loop-test .taken)
+loop-less-2 c = omega (arith, c .before .before .before .before .before .before .before .before .loop-test .taken)
 
 loop-again-2 : tie.Need-loop-again-2 Inv-loop μ-loop
 loop-again-2 c =
     let at-taking = c .before .before in
     let at-add = at-taking .before in
     let at-offer = at-add .before in
-    let at-line = at-offer .before .before in
-    let at-worker = at-line .before .before in
-    let in-loop = at-worker .before .before in
+    let in-loop = at-offer .before .before .before .before in
     laws.again (in-loop .before .loop .inv) (in-loop .loop-test .taken)
-    (taking.nothing-turn _ _ _ _ (at-worker .wide .ensures) (at-line .wide2 .ensures) _ (at-offer .offer .ensures) (at-taking .taking-of .ensures) (c .enum-told .given .1))
+    (taking.nothing-turn _ _ _ _ refl refl _ (at-offer .offer .ensures) (at-taking .taking-of .ensures) (c .enum-told .given .1))
     (at-add .add .ensures) refl
 
 same-length : tie.Need-same-length Inv-loop μ-loop
@@ -105,13 +101,13 @@ follow-taken-spec =
     Inv-loop
     μ-loop
     loop-holds
-    mul-wide
-    shared-slice-read-wide
-    wide-requires
-    mul-wide-2
-    add-wide
-    shared-slice-read-wide-2
-    wide-requires-2
+    mul-worker
+    shared-slice-read-worker
+    cast-worker
+    mul-line
+    add-line
+    shared-slice-read-line
+    cast-line
     offer-requires
     add-requires
     add-k
