@@ -1,6 +1,5 @@
 -- An offer of the code, followed by its taking, is the choice.
 use mathlib.Core.Path.{_≡_, refl, sym, ap, _∙_}
-use mathlib.Core.Bool.{false}
 use mathlib.Core.List.{List}
 use Prim.Native.Nat.{ℕ}
 use Rattle.rules.specs.Choices as rules
@@ -8,7 +7,7 @@ use Rattle.rules.specs.Choices.{refuse, choose}
 use Rattle.rules.specs.WholeRuns.{Accepted}
 use Rattle.rules.specs.Answers.{answerOf}
 use Rattle.rules.specs.Offers.{isRefused, eventOf, takeOffered}
-use Rattle.rules.proofs.choices.Offered.{taken-as-chosen, taken-own, taken-other, taken-event, taken-unchanged}
+use Rattle.rules.proofs.choices.Offered.{not-refused, taken-as-chosen, taken-own, taken-other, taken-event, taken-unchanged}
 use Rattle.vocabulary.specs.Refusals.{numberOf}
 use Rattle.vocabulary.specs.Events.{eventRecord}
 use Rattle.vocabulary.specs.declared.answer.Answer.{Answer}
@@ -45,13 +44,6 @@ offer-then-take s m w l a offers = record {
 refusal : (why : Refusal) (a : Answer) → a ≡ Answer.Refused why → answerOf a ≡ rules.Refused (numberOf why)
 unfolding answerOf
 refusal why a e = ap answerOf e
-
--- an answer that is no refusal, as a test
-not-refused : (a : rules.Answer) → Accepted a → isRefused a ≡ false
-not-refused (rules.Started l p t k w) ok = refl
-not-refused (rules.Finished l p t k w) ok = refl
-not-refused (rules.Stopped l w) ok = refl
-not-refused (rules.Refused n) ok = absurd (ok n refl)
 
 module _ (s : State) (m : List ℕ) (e : Event) (r : Chosen) (m′ : List ℕ) (takes : TakeCall s m e r m′) where
   -- a taking that the rules refuse

@@ -6,6 +6,7 @@ mod turn;
 
 pub use offering::offer;
 pub use offering::take_offered;
+pub use offering::take_record;
 use ranges::Survey;
 use state::COUNTERS_OF_LINE;
 use state::Figures;

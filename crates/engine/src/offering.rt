@@ -105,7 +105,7 @@ fn shown(f: Figures, slot: Slot, mem: &[u16], worker: Worker, line: Line) -> Ans
 
 // The choice that a record names, made only if its event is the record's, and refused with `other` where it is another. (The slot is
 // read here: in a function of its own the state would be copied once more.)
-fn take_record(s: State, mem: &mut [u16], wanted: EventRecord, other: Refusal) -> Chosen
+pub fn take_record(s: State, mem: &mut [u16], wanted: EventRecord, other: Refusal) -> Chosen
     ensures { λ r. ⌜ chosenOf r (now (mem .exit)) ≡ takeRecord memorySource (machineOf s (now (mem .entry))) wanted (numberOf other) ⌝ }
 {
     let worker = Worker(wanted.worker);

@@ -24,5 +24,7 @@ pub mod WholeRuns
 pub mod AcceptedOnly
 -- the same choices under a larger limit;
 pub mod MoreWorkers
--- and two choices in either order.
+-- two choices in either order;
 pub mod Swapping
+-- and the marking of a journal.
+pub mod Journals

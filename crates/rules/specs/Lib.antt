@@ -19,5 +19,7 @@ pub mod WholeRuns
 -- a list of choices under a larger limit, and two in either order (2.12);
 pub mod MoreWorkers
 pub mod Swapping
+-- the marking of a written journal (2.6);
+pub mod Journals
 -- and what it is for one source of tokens to do as another.
 pub mod RelatedSources

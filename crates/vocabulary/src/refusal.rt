@@ -34,6 +34,8 @@ pub enum Refusal {
     Spoiled,
     // 19: the line would not give the event that is handed
     OtherEvent,
+    // 20: the rules' event differs from the one that is written in a journal
+    JournalDiffers,
     // 26: the worker is W or more, or is not the one that runs the line
     WrongWorker,
 }
@@ -59,6 +61,7 @@ impl Refusal {
             Refusal::WorkerBusy => 13,
             Refusal::Spoiled => 14,
             Refusal::OtherEvent => 19,
+            Refusal::JournalDiffers => 20,
             Refusal::WrongWorker => 26,
         }
     }

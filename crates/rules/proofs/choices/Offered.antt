@@ -61,6 +61,12 @@ event-accepted (Event.Stopped s) = refl
 pub is-accepted : (a : Answer) → isRefused a ≡ false → Accepted a
 is-accepted a e n a-is = never (sym (ap isRefused a-is) ∙ e)
 
+pub not-refused : (a : Answer) → Accepted a → isRefused a ≡ false
+not-refused (Started l p t k w) ok = refl
+not-refused (Finished l p t k w) ok = refl
+not-refused (Stopped l w) ok = refl
+not-refused (Refused n) ok = absurd (ok n refl)
+
 -- an accepted choice's event names the worker and the line that were chosen
 module _ {X : Type 0} (S : Source X) (m : Machine X) (w l : ℕ) where
   abbrev Names : Answer → Type 0

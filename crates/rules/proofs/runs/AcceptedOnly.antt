@@ -13,11 +13,11 @@ use Rattle.rules.proofs.choices.Answers.{started-accepted, finished-acc
 use Rattle.rules.proofs.choices.Outcomes.{refused-unchanged}
 
 -- an answer is an event, and so that of an accepted choice, or a refusal
-data Kind (a : Answer) : Type 0 where
+pub data Kind (a : Answer) : Type 0 where
   event : isEvent a ≡ true → Accepted a → Kind a
   refusal : isEvent a ≡ false → (n : ℕ) → a ≡ Refused n → Kind a
 
-kind : (a : Answer) → Kind a
+pub kind : (a : Answer) → Kind a
 unfolding isEvent
 kind (Started l p t k w) = event refl started-accepted
 kind (Finished l p t k w) = event refl finished-accepted

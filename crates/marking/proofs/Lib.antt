@@ -1,0 +1,2 @@
+-- Marking, as the code meets it.
+pub mod StepLaws

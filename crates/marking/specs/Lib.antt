@@ -1,0 +1,2 @@
+-- Marking a journal, of the code.
+pub mod Marking
