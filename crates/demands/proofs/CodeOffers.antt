@@ -4,7 +4,6 @@ use mathlib.Core.List.{List}
 use Prim.Native.Nat.{ℕ}
 use Rattle.rules.specs.Choices as rules
 use Rattle.rules.specs.Choices.{refuse, choose}
-use Rattle.rules.specs.WholeRuns.{Accepted}
 use Rattle.rules.specs.Answers.{answerOf}
 use Rattle.rules.specs.Offers.{isRefused, eventOf, takeOffered}
 use Rattle.rules.proofs.choices.Offered.{not-refused, taken-as-chosen, taken-own, taken-other, taken-event, taken-unchanged}

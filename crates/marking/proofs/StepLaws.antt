@@ -33,7 +33,7 @@ begins file workers m k o-is m-is k-is = λ j. record {
 goes : {b : Bool} (v : Verdict) → b ≡ not (goesOn v) → b ≡ false → goesOn v ≡ true
 goes v e f = by-test (goesOn v) (λ t. t) (λ n. absurd (never (sym (e ∙ ap not n) ∙ f)))
 
-stays : {b : Bool} (v : Verdict) → b ≡ not (goesOn v) → b ≡ true → goesOn v ≡ false
+pub stays : {b : Bool} (v : Verdict) → b ≡ not (goesOn v) → b ≡ true → goesOn v ≡ false
 stays v e t = by-test (goesOn v) (λ g. absurd (never (sym t ∙ e ∙ ap not g))) (λ n. n)
 
 -- an event
