@@ -53,7 +53,7 @@ last-unspoiled a (d ∷ cs) c each = last-unspoiled (chooseBy memorySource a d .
 
 module _ {p : Plan} (demands : Demands p) (m : List ℕ) (enough : 32768 ≤ length m) {workers : ℕ} (manned : WorkersInRange workers) (cs : List Choice) where
   -- the numbers that a run leaves are in range: no choice after it gets 14
-  left-sound : sound memorySource (left p m workers cs) ≡ true
+  pub left-sound : sound memorySource (left p m workers cs) ≡ true
   left-sound =
       let c : Choice = record { worker = 0; line = 0 } in
       unspoiled-sound memorySource (left p m workers cs) 0 0 (last-unspoiled _ cs c (demands .runs m enough workers manned (cs ++ (c ∷ [])) .never-spoiled))

@@ -20,5 +20,7 @@ pub mod CodeOffers
 pub mod CodeRuns
 -- its choices do the same under a larger limit;
 pub mod MoreWorkers
--- and two after it do the same in either order.
+-- two after it do the same in either order;
 pub mod Swapping
+-- and a journal is marked as the choices that give its events say.
+pub mod CodeJournals

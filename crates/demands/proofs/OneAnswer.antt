@@ -15,7 +15,7 @@ use Rattle.engine.specs.Machines.{chosenOf}
 use Rattle.demands.proofs.Unchanged.{same-state}
 
 -- the refusal of a number
-refusalAt : ℕ → Refusal
+pub refusalAt : ℕ → Refusal
 refusalAt n =
     if (eqb n 1) Refusal.FileSize (if (eqb n 2) Refusal.PartSizes (if (eqb n 3) Refusal.Limits (if (eqb n 4) Refusal.Pipes
     (if (eqb n 5) Refusal.RecordLayout (if (eqb n 6) Refusal.ListsItself (if (eqb n 7) Refusal.TotalCount (if (eqb n 8) Refusal.Workers
@@ -23,7 +23,7 @@ refusalAt n =
     (if (eqb n 13) Refusal.WorkerBusy (if (eqb n 14) Refusal.Spoiled (if (eqb n 19) Refusal.OtherEvent (if (eqb n 20) Refusal.JournalDiffers
     Refusal.WrongWorker)))))))))))))))
 
-number-back : (r : Refusal) → refusalAt (numberOf r) ≡ r
+pub number-back : (r : Refusal) → refusalAt (numberOf r) ≡ r
 unfolding refusalAt
 number-back Refusal.FileSize = refl
 number-back Refusal.PartSizes = refl

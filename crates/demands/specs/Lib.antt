@@ -8,6 +8,8 @@ pub mod CodeRuns
 pub mod OneOutcome
 -- an offer, and the taking of what was offered (02, 2.3);
 pub mod CodeOffers
--- a session's choices under a larger limit, and two in either order (02, 2.12).
+-- a session's choices under a larger limit, and two in either order (02, 2.12);
 pub mod MoreWorkers
 pub mod Swapping
+-- and the marking of a journal (02, 2.6).
+pub mod CodeJournals

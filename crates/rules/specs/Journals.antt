@@ -2,15 +2,18 @@
 use mathlib.Core.Path.{_≡_}
 use mathlib.Core.Logic.{_↔_}
 use mathlib.Core.Bool.{Bool, true, false}
-use mathlib.Core.List.{List, [], _∷_, _++_, map}
+use mathlib.Core.List.{List, [], _∷_, map}
 use Prim.Native.Nat.{ℕ, suc, _<_, _≤_}
-use lib.ListN.{length, take}
-use Rattle.rules.specs.Lists.{if, must}
+use lib.Dec.{eqb}
+use lib.ListN.{take, drop}
+use Rattle.rules.specs.Lists.{if, must, all}
 use Rattle.rules.specs.Sources.{Source}
 use Rattle.rules.specs.RunState.{Machine}
 use Rattle.rules.specs.Choices.{Answer, Started, Finished, Stopped, Refused, Choice, Chosen, refuse, ended, answers, follow}
 use Rattle.rules.specs.Offers.{recordOf, takeRecord}
+use Rattle.rules.specs.PlainSheet.{Row}
 use Rattle.rules.specs.MoreWorkers.{withoutRefusals}
+use Rattle.vocabulary.specs.Events.{startedKind}
 use Rattle.vocabulary.specs.declared.event.EventRecord.{EventRecord}
 
 -- "say "complete", "correct so far", or the index (from 0) of the first event that the rules do not give, with its refusal"; or the
@@ -63,6 +66,14 @@ module _ {X : Type 0} (S : Source X) where
 abbrev pub journalOf : List Answer → List EventRecord
 journalOf told = map recordOf (withoutRefusals told)
 
+-- the order of a journal is that of its starts at pipe 0, as rows of the sheet
+unfoldable pub orderIn : List EventRecord → List Row
+orderIn [] = []
+orderIn (r ∷ rs) =
+    if (all (eqb (r .kind) startedKind ∷ eqb (r .pipe) 0 ∷ []))
+    (record { token = r .token; place = r .place; line = r .line } ∷ orderIn rs)
+    (orderIn rs)
+
 module _ {X : Type 0} (S : Source X) (m : Machine X) where
   -- choices from here, refused ones among them or not, "give just those events"
   abbrev pub Gives : List Choice → List EventRecord → Type 0
@@ -74,17 +85,15 @@ module _ {X : Type 0} (S : Source X) (m : Machine X) where
 
   -- "the index (from 0) of the first event that the rules do not give, with its refusal"
   pub record FirstWrong (rs : List EventRecord) (left : Machine X) (i n : ℕ) : Type 0 where
-    -- the event, and those before and after it
-    pub before : List EventRecord
+    -- the event with this index, and those after it
     pub event : EventRecord
     pub rest : List EventRecord
-    pub parts : rs ≡ before ++ (event ∷ rest)
-    pub index : length before ≡ i
-    -- the events up to it are given, with none or some of them; with it, or more of them, no choices give them
+    pub index : drop i rs ≡ event ∷ rest
+    -- some choices give the events before it, or the first few of them; none give those up to and with it, or more
     pub earlier : (j : ℕ) → j ≤ i → Given (take j rs)
     pub later : (j : ℕ) → i < j → Given (take j rs) → ⊥
-    -- whatever choices give those before it leave the run as marking left it, and there it is refused with this number
-    pub leaves : (cs : List Choice) → Gives cs before → follow S m cs ≡ left
+    -- whatever choices give those before it, they leave the run as marking left it, and there it is refused with this number
+    pub leaves : (cs : List Choice) → Gives cs (take i rs) → follow S m cs ≡ left
     pub refused : takeRecord S left event 20 ≡ refuse left n
 
   -- what marking says of a journal whose run is at its opening here

@@ -4,17 +4,19 @@ use mathlib.Core.Bool.{Bool, true, false}
 use mathlib.Core.List.{List, [], _∷_, _++_}
 use Prim.Native.Nat.{ℕ, zero, suc, _+_, _<_, _≤_}
 use native.Mathlib.Omega.{arith}
-use lib.ListN.{length, take}
+use lib.Dec.{eqb}
+use lib.ListN.{length, take, drop}
+use lib.Seq.{take-append-seam, drop-append-seam}
 use Rattle.vocabulary.specs.declared.event.EventRecord.{EventRecord}
 use Rattle.vocabulary.specs.Events.{sameRecord}
 use Rattle.rules.specs.Lists.{if, keep}
 use Rattle.rules.specs.Sources.{Source}
 use Rattle.rules.specs.RunState.{Machine}
 use Rattle.rules.specs.Choices.{Answer, Started, Finished, Stopped, Refused, Choice, Chosen, refuse, ended, chooseBy, answers, follow}
-use Rattle.rules.specs.WholeRuns.{Accepted}
+use Rattle.rules.specs.WholeRuns.{Accepted, accepted, ordered}
 use Rattle.rules.specs.Offers.{isRefused, recordOf, named, takeRecord}
 use Rattle.rules.specs.MoreWorkers.{isEvent}
-use Rattle.rules.specs.Journals.{Verdict, Complete, CorrectSoFar, Wrong, NotOpened, Marked, goesOn, closing, unlessRefused, markEvents, markMore, journalOf}
+use Rattle.rules.specs.Journals.{Verdict, Complete, CorrectSoFar, Wrong, NotOpened, Marked, goesOn, closing, unlessRefused, markEvents, markMore, journalOf, orderIn}
 use Rattle.rules.specs.Journals.{Gives, Given, FirstWrong, JournalMarked}
 use Rattle.rules.proofs.lists.Tests.{by-test, never, holds, fails, see}
 use Rattle.rules.proofs.choices.Outcomes.{refused-unchanged}
@@ -27,6 +29,25 @@ unless-accepted (Started l p t k w) turned rest ok = refl
 unless-accepted (Finished l p t k w) turned rest ok = refl
 unless-accepted (Stopped l w) turned rest ok = refl
 unless-accepted (Refused n) turned rest ok = absurd (ok n refl)
+
+-- the order of a run's journal is that of the run, and it has an event for each choice that was accepted
+pub journal-order : (told : List Answer) → orderIn (journalOf told) ≡ ordered told
+unfolding orderIn ordered keep isEvent
+journal-order [] = refl
+journal-order (Started l p t k w ∷ told) = by-test (eqb p 0)
+    (λ e. rw (e, journal-order told))
+    (λ e. rw (e, journal-order told))
+journal-order (Finished l p t k w ∷ told) = journal-order told
+journal-order (Stopped l w ∷ told) = journal-order told
+journal-order (Refused n ∷ told) = journal-order told
+
+pub journal-length : (told : List Answer) → length (journalOf told) ≡ accepted told
+unfolding accepted keep isEvent
+journal-length [] = refl
+journal-length (Started l p t k w ∷ told) = ap suc (journal-length told)
+journal-length (Finished l p t k w ∷ told) = ap suc (journal-length told)
+journal-length (Stopped l w ∷ told) = ap suc (journal-length told)
+journal-length (Refused n ∷ told) = journal-length told
 
 -- no verdict but one goes on
 goes-so-far : (v : Verdict) → goesOn v ≡ true → v ≡ CorrectSoFar
@@ -267,18 +288,18 @@ module _ {X : Type 0} (S : Source X) where
 
         first-wrong : FirstWrong S m rs (follow S m cs) (length before) n
         first-wrong = record {
-          before = before;
           event = r;
           rest = rest;
-          parts = parts;
-          index = refl;
+          index = ap (drop (length before)) parts ∙ drop-append-seam before (r ∷ rest);
           earlier = λ j h.
               let (zs, all) = take-within j before (r ∷ rest) h in
               subst (λ l. Given S m (take j l)) (sym parts) (first-given (take j (before ++ (r ∷ rest))) zs (subst (Given S m) all (cs, g)));
           later = λ j h ks.
               let (zs, all) = take-beyond j before r rest h in
               not-both (before ++ (r ∷ zs)) (as-wrong before r zs cs g n e) (subst (Given S m) (ap (take j) parts ∙ all) ks);
-          leaves = λ ks gk. ap (λ (k : Marked X). k .machine) (sym (as-given before ks gk) ∙ as-given before cs g);
+          leaves = λ ks gk.
+              let front : take (length before) rs ≡ before = ap (take (length before)) parts ∙ take-append-seam before (r ∷ rest) in
+              ap (λ (k : Marked X). k .machine) (sym (as-given before ks (gk ∙ front)) ∙ as-given before cs g);
           refused = e;
         }
 
