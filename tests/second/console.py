@@ -3,6 +3,7 @@
 import os
 
 import plan_file
+from journal import LONGEST_JOURNAL, mark, records_in, verdict_line
 from plan_file import EDITION, LONGEST_FILE, Refused
 from program import line_of
 from run import Run
@@ -43,15 +44,19 @@ def event_in(words):
     return None if numbers is None else (words[0].decode("ascii"), *numbers)
 
 
-def file_at(folder, path):
-    """What is read of a file, so that a longer one is seen as longer; b"" if it cannot be read.
+def is_path(path):
+    return 1 <= len(path) <= LONGEST_PATH
+
+
+def file_at(folder, path, most):
+    """So many bytes of a file, or all that it has; b"" if it cannot be read.
 
     Opened from the folder as the program opens it: the two paths as one could be too long.
     """
     place = os.open(folder, os.O_RDONLY)
     try:
         with open(path, "rb", opener=lambda name, how: os.open(name, how, dir_fd=place)) as file:
-            return file.read(LONGEST_FILE + 1)
+            return file.read(most)
     except (OSError, ValueError):  # ValueError: a NUL byte
         return b""
     finally:
@@ -80,7 +85,11 @@ class Console:
         if not space:
             return UNKNOWN
         if word == b"plan":
-            return self.plan(rest)
+            return self.plan(rest) if is_path(rest) else UNKNOWN
+        if word == b"mark":
+            workers, _, path = rest.partition(b" ")
+            workers = number_in(workers)
+            return UNKNOWN if workers is None or not is_path(path) else self.mark(workers, path)
         words = rest.split(b" ")
         if word == b"take":
             event = event_in(words)
@@ -96,10 +105,8 @@ class Console:
         return UNKNOWN
 
     def plan(self, path):
-        if not 1 <= len(path) <= LONGEST_PATH:
-            return UNKNOWN
-        # Kept, refused or not; the run needs it no longer.
-        self.file = file_at(self.folder, path)
+        # Kept, refused or not; the run needs it no longer. A longer file is seen to be longer.
+        self.file = file_at(self.folder, path, LONGEST_FILE + 1)
         try:
             plan = plan_file.read(self.file)
         except Refused as refused:
@@ -122,6 +129,12 @@ class Console:
 
     def take(self, event):
         return NO_RUN if self.run is None else line_of(self.run.take(event))
+
+    def mark(self, workers, path):
+        # A run of its own, over the kept plan file: the open run is not touched.
+        journal = records_in(file_at(self.folder, path, LONGEST_JOURNAL))
+        verdict, _ = mark(self.file, workers, journal)
+        return verdict_line(verdict)
 
 
 def lines_in(data):

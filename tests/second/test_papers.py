@@ -10,10 +10,12 @@ from pathlib import Path
 HERE = Path(__file__).resolve().parent
 sys.path.insert(0, str(HERE))
 
+import journal_makers
 import makers
 import plan_file
 from cases import CASE_A_FILE, CASE_A_INPUT, CASE_A_OUTPUT, CASES
 from chance import Chance
+from journal import COMPLETE, SO_FAR, WRONG, choice_of, journal_bytes, journal_of, mark, record_of, records_in
 from makers import by_practice, one_worker_list, program_input, raw_file, raw_record
 from plan_file import Plan, Refused, encode
 from program import output
@@ -954,6 +956,252 @@ class OfferThenTake(unittest.TestCase):
         still = run.offer(0, 0)
         run.choose(1, 1)
         self.check_take(run, still, still)
+
+
+class MarkingAJournal(unittest.TestCase):
+    """Request 2.6, with the workers of 2.14."""
+
+    # The small run of the README: case h on two serial pipes and two lines, two workers.
+    PLAN = CASES["h"].plan([True, True], 2)
+    WRITTEN = """
+        S 0 0 2 0 0
+        F 0 0 2 0 0
+        S 1 0 1 1 0
+        S 0 1 2 0 1
+        F 1 0 1 1 0
+        F 0 1 2 0 1
+        S 1 1 1 1 0
+        S 0 0 0 2 1
+        F 1 1 1 1 0
+        F 0 0 0 2 1
+        X 1 0 0 0 0
+        S 0 1 0 2 0
+        F 0 1 0 2 0
+    """
+
+    def record(self, text):
+        letter, *numbers = text.split()
+        return (ord(letter), *map(int, numbers))
+
+    def written(self):
+        return [self.record(line) for line in self.WRITTEN.strip().split("\n")]
+
+    def with_one(self, at, text):
+        """The journal with one record written otherwise, or one more."""
+        records = self.written()
+        records[at:at + 1] = [self.record(text)]
+        return records
+
+    def check(self, records, verdict, workers=2, plan=None):
+        """The verdict; and the run is left as by the choices of the events before the refusal."""
+        plan = plan or self.PLAN
+        there, run = mark(encode(plan), workers, records)
+        self.assertEqual(there, verdict)
+        accepted = records[:verdict[1]] if verdict[0] == WRONG else records
+        chosen, answers = events(plan, workers, [choice_of(record) for record in accepted])
+        self.assertEqual([record_of(answer) for answer in answers], [tuple(record) for record in accepted])
+        self.assertEqual((run.state(), run.line_of), (chosen.state(), chosen.line_of))
+
+    def check_wrong(self, *steps):
+        """Each step is an index, what is written there, and the refusal there."""
+        for at, text, number in steps:
+            with self.subTest(at=at, text=text):
+                self.check(self.with_one(at, text), (WRONG, at, number))
+
+    def test_bytes(self):
+        case_a = bytes.fromhex(
+            "53 0000 0000 0000 0000 0000" "46 0000 0000 0000 0000 0000" "58 0000 0000 0000 0000 0000"
+        )
+        records = [(83, 0, 0, 0, 0, 0), (70, 0, 0, 0, 0, 0), (88, 0, 0, 0, 0, 0)]
+        self.assertEqual(journal_bytes(records), case_a)
+        self.assertEqual(mark(CASE_A_FILE, 1, records_in(case_a))[0], (COMPLETE,))
+        # Low byte first; whole records only.
+        data = bytes.fromhex("53 0102 0304 0506 0708 090a")
+        self.assertEqual(records_in(data), [(83, 0x201, 0x403, 0x605, 0x807, 0xA09)])
+        for size in range(34):
+            self.assertEqual(records_in(case_a[:size]), records[:size // 11])
+        self.assertEqual(record_of((STOPPED, 5, 6)), (88, 5, 0, 0, 0, 6))
+        self.assertEqual(record_of((FINISHED, 1, 2, 3, 4, 5)), (70, 1, 2, 3, 4, 5))
+        chance = Chance(3015)
+        for _ in range(200):
+            record = (chance.below(256), *(chance.below(65536) for _ in range(5)))
+            self.assertEqual(records_in(journal_bytes([record])), [record])
+
+    def test_the_small_run(self):
+        records = self.written()
+        for many in range(13):
+            self.check(records[:many], (SO_FAR,))
+        self.check(records, (COMPLETE,))
+        # In a larger hall, too; in a smaller one worker 1 is not there.
+        self.check(records, (COMPLETE,), workers=32)
+        self.check(records, (WRONG, 3, 26), workers=1)
+
+    def test_a_stop_is_not_the_end(self):
+        self.assertEqual(self.written()[10][0], ord(STOPPED))
+        self.check(self.written()[:11], (SO_FAR,))
+        for plan in (CASES["c"].plan(), CASES["e"].plan()):
+            self.check([], (SO_FAR,), 1, plan)
+            self.check([(88, 0, 0, 0, 0, 0)], (COMPLETE,), 1, plan)
+
+    def test_a_choices_own_numbers(self):
+        self.check_wrong(
+            (0, "S 2 0 2 0 0", 10), (0, "S 65535 0 2 0 65535", 10), (10, "X 2 0 0 0 2", 10),
+            (0, "S 0 0 2 0 2", 26), (0, "S 1 0 2 0 2", 26),  # 26 before 12
+            (1, "F 0 0 2 0 1", 26), (5, "F 0 1 2 0 0", 26), (12, "F 0 1 0 2 1", 26),
+            (4, "F 0 1 2 0 0", 26),  # the line is another's, whatever else
+            (3, "S 1 0 1 1 1", 26),
+            (0, "S 1 0 2 0 0", 12), (11, "X 1 0 0 0 1", 12),
+            (3, "S 0 1 2 0 0", 13), (7, "S 0 0 0 2 0", 13),
+            (13, "X 1 0 0 0 0", 11), (13, "S 0 0 3 3 0", 11), (13, "F 0 1 0 2 0", 11),
+            (13, "X 2 0 0 0 0", 10), (13, "X 1 0 0 0 2", 26),  # both before 11
+        )
+        # A stop by a worker who runs another line.
+        self.check(self.written()[:8] + [self.record("X 1 0 0 0 1")], (WRONG, 8, 26))
+        stopping = [self.record(text) for text in ("S 0 0 0 0 1", "F 0 0 0 0 1", "S 0 1 0 0 1", "X 1 0 0 0 1")]
+        self.check(stopping, (WRONG, 3, 13), 2, Plan([True, True], 2, 1))
+
+    def test_each_field(self):
+        self.check_wrong(
+            (0, "F 0 0 2 0 0", 20), (1, "S 0 0 2 0 0", 20), (10, "S 1 0 0 0 0", 20), (10, "S 1 0 3 3 0", 20),
+            (0, "X 0 0 0 0 0", 20), (0, "X 0 0 2 0 0", 20), (1, "X 0 0 0 0 0", 20), (1, "X 0 0 2 0 0", 20),
+            (2, "S 1 1 1 1 0", 20), (3, "S 0 0 2 0 1", 20), (3, "S 0 2 2 0 1", 20), (3, "S 0 257 2 0 1", 20),
+            (5, "F 0 0 2 0 1", 20),
+            (0, "S 0 0 0 0 0", 20), (0, "S 0 0 258 0 0", 20), (4, "F 1 0 2 1 0", 20),
+            (2, "S 1 0 1 2 0", 20), (2, "S 1 0 1 257 0", 20), (2, "S 1 0 1 0 0", 20), (4, "F 1 0 1 0 0", 20),
+            # Another line's own step is another event: its other fields are that line's.
+            (6, "S 0 1 1 1 0", 20), (7, "S 1 0 0 2 0", 20), (9, "F 1 0 0 2 1", 12),
+            # A stop has 0 in these three.
+            (10, "X 1 1 0 0 0", 20), (10, "X 1 0 1 0 0", 20), (10, "X 1 0 0 3 0", 20), (10, "X 1 256 0 0 0", 20),
+        )
+        # The line and the worker name the choice, so a start by another idle worker is an event.
+        records = self.with_one(0, "S 0 0 2 0 1")
+        self.check(records, (WRONG, 1, 26))
+        records[1] = self.record("F 0 0 2 0 1")
+        self.check(records, (COMPLETE,))
+
+    def test_letters_that_are_no_kind(self):
+        letters = [byte for byte in range(256) if byte not in b"SFX"]
+        for at, record in enumerate(self.written()):
+            for letter in letters:
+                records = self.written()
+                records[at] = (letter, *record[1:])
+                self.assertEqual(mark(encode(self.PLAN), 2, records)[0], (WRONG, at, 20))
+        # The choice's own numbers come first.
+        self.check_wrong((0, "s 2 0 2 0 0", 10), (0, "s 1 0 2 0 0", 12), (13, "x 1 0 0 0 0", 11))
+
+    def test_the_openings_numbers_come_first(self):
+        wrong = [self.record("S 9 9 9 9 9")]
+        data = encode(self.PLAN)
+        refused = {
+            1: b"", 2: data[1:], 3: raw_file(edition=2), 4: raw_file(pipes=b"P"),
+            5: raw_file(raw_record(1, [3, 2]), r=1), 6: raw_file(raw_record(1, [1]), r=1),
+            7: encode(makers.plan_with_total(8193)),
+        }
+        for records in ([], self.written(), wrong):
+            for number, plan in refused.items():
+                for workers, lent in ((2, 32768), (0, 32768), (33, 0)):
+                    self.assertEqual(mark(plan, workers, records, lent), ((REFUSED, number), None))
+            for workers in (0, 33, 65535):
+                for lent in (32768, 32767):
+                    self.assertEqual(mark(data, workers, records, lent), ((REFUSED, 8), None))
+            for lent in (0, 32767):
+                self.assertEqual(mark(data, 2, records, lent), ((REFUSED, 9), None))
+        self.assertEqual(mark(data, 2, wrong, 40000)[0], (WRONG, 0, 10))
+
+    def lists(self, seed, many, **sizes):
+        """Random plans, limits and lists of choices, refused ones among them."""
+        chance = Chance(seed)
+        for _ in range(many):
+            plan = makers.random_plan(chance, **sizes)
+            workers = journal_makers.random_workers(chance)
+            most = chance.between(0, 120)
+            yield chance, plan, workers, journal_makers.random_choices(chance, plan, workers, most)
+
+    def test_any_choices_pass(self):
+        seen = Counter()
+        for chance, plan, workers, choices in self.lists(3016, 300):
+            records, run = journal_of(plan, workers, choices)
+            self.check(records, (COMPLETE if run.ended else SO_FAR,), workers, plan)
+            seen["complete" if run.ended else "so far", len(records) < len(choices)] += 1
+            # So does every first part; only the whole can be complete.
+            if records:
+                self.check(records[:chance.below(len(records))], (SO_FAR,), workers, plan)
+        self.assertEqual(len(seen), 4)
+        self.assertGreater(min(seen.values()), 20)
+
+    def test_damaged(self):
+        """Marked wrong exactly if the choices that the records name do not give them."""
+        chance = Chance(3017)
+        seen = Counter()
+        for _ in range(1500):
+            plan = makers.random_plan(chance, tokens=8)
+            data, workers, done = journal_makers.any_journal(chance, plan)
+            records = records_in(data)
+            if not 1 <= workers <= MOST_WORKERS:
+                self.assertEqual(mark(encode(plan), workers, records)[0], (REFUSED, 8))
+                continue
+            run, answers = events(plan, workers, [choice_of(record) for record in records])
+            given = [answer[0] != REFUSED and record_of(answer) == record
+                     for answer, record in zip(answers, records)]
+            if all(given):
+                verdict = (COMPLETE if run.ended else SO_FAR,)
+            else:
+                at = given.index(False)
+                verdict = (WRONG, at, answers[at][1] if answers[at][0] == REFUSED else 20)
+            self.check(records, verdict, workers, plan)
+            seen[done] += 1
+            seen[verdict[0], verdict[-1]] += 1
+        for done in journal_makers.DAMAGES:
+            self.assertGreater(seen[done], 20, done)
+        for number in (10, 11, 12, 13, 20, 26):
+            self.assertGreater(seen[WRONG, number], 15, number)
+        self.assertEqual(len(seen), len(journal_makers.DAMAGES) + 8)
+
+    def all_journals(self, plan, workers):
+        """Every journal that some choices give, with whether they end the run."""
+        found = {(): False}
+        runs = [((), Run(plan, workers))]
+        while runs:
+            before, run = runs.pop()
+            for worker in range(workers):
+                for line in range(plan.lines):
+                    after = copy.deepcopy(run)
+                    event = after.choose(worker, line)
+                    if event[0] != REFUSED:
+                        journal = (*before, record_of(event))
+                        found[journal] = after.ended
+                        runs.append((journal, after))
+        return found
+
+    def test_passes_exactly_if_some_choices_give_it(self):
+        wrong = 0
+        for plan, workers in (
+            (CASES["d"].plan(), 2), (CASES["d"].plan(lines=2), 2), (Plan([True, False], 2, 1), 2),
+            (CASES["f"].plan(lines=2), 1), (CASES["c"].plan(), 3), (CASES["d"].plan(), 3),
+        ):
+            found = self.all_journals(plan, workers)
+            data = encode(plan)
+            records = sorted({record for journal in found for record in journal})
+            for journal, ended in found.items():
+                self.assertEqual(mark(data, workers, journal)[0], (COMPLETE if ended else SO_FAR,))
+                # With each record that occurs at all as the next one.
+                for record in records:
+                    longer = (*journal, record)
+                    if longer not in found:
+                        verdict, _ = mark(data, workers, longer)
+                        self.assertEqual(verdict[:2], (WRONG, len(journal)))
+                        wrong += 1
+        self.assertGreater(wrong, 1000)
+
+    def test_longest(self):
+        plan = Plan(makers.big_pipes(), 32, 4096, makers.third_records())
+        records, run = journal_of(plan, 1, one_worker_list(plan))
+        self.assertTrue(run.ended)
+        self.assertEqual(len(records), 131073)
+        for journal, verdict in (
+            (records, (COMPLETE,)), (records[:-1], (SO_FAR,)), (records + records[:1], (WRONG, 131073, 11)),
+        ):
+            self.assertEqual(mark(encode(plan), 1, journal)[0], verdict)
 
 
 class StoredVectors(unittest.TestCase):
