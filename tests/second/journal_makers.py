@@ -59,6 +59,23 @@ def other_field(field):
     return damage
 
 
+def busy_worker(chance, records):
+    """A start or stop by a worker who runs another line, where there is one."""
+    busy, found = set(), []
+    for at, record in enumerate(records):
+        if record[0] == ord(FINISHED):
+            busy.discard(record[-1])
+            continue
+        if busy:
+            found.append((at, chance.pick(sorted(busy))))
+        if record[0] == ord(STARTED):
+            busy.add(record[-1])
+    if not found:
+        return records
+    at, worker = chance.pick(found)
+    return changed(records, at, FIELDS.index("worker"), worker)
+
+
 def other_letter(chance, records):
     at = chance.below(len(records))
     return changed(records, at, 0, chance.pick([kind for kind in LETTERS if kind != records[at][0]]))
@@ -112,6 +129,7 @@ REFUSED_CHOICE = "a refused choice written down"
 OTHER_W = "another W"
 BY_RECORDS = {
     **{f"another {name}": other_field(field) for field, name in enumerate(FIELDS) if field},
+    "a busy worker": busy_worker,
     "another letter": other_letter,
     "a letter that is no kind": no_letter,
     "neighbours exchanged": exchanged,
@@ -121,11 +139,13 @@ BY_RECORDS = {
     "a stop with numbers": stop_with_numbers,
 }
 DAMAGES = (AS_IT_WAS, EMPTY, PART, REFUSED_CHOICE, OTHER_W, *BY_RECORDS)
+# These have the most that may follow, so they come more often.
+OFTEN = (*DAMAGES, AS_IT_WAS, AS_IT_WAS, AS_IT_WAS, REFUSED_CHOICE, REFUSED_CHOICE, "a record more", "a record more")
 
 
 def refused_choice(chance, plan, workers, records):
     """The journal with a record of a choice that is refused there, right but for that."""
-    at = chance.pick([len(records), chance.between(0, len(records))])
+    at = len(records) if chance.one_in(3) else chance.between(0, len(records))
     run = Run(plan, workers)
     for record in records[:at]:
         run.choose(*choice_of(record))
@@ -133,11 +153,11 @@ def refused_choice(chance, plan, workers, records):
         (worker, line) for line in range(plan.lines + 1) for worker in range(workers + 1)
         if run.refusal(worker, line)
     ]
-    # One of each number that there is, so that no number is rare.
-    by_number = {}
-    for choice in chance.shuffled(choices):
-        by_number[run.refusal(*choice)] = choice
-    worker, line = by_number[chance.pick(sorted(by_number))]
+    # One of each reason that there is, so that none is rare; 26 has two.
+    by_reason = {}
+    for worker, line in chance.shuffled(choices):
+        by_reason[run.refusal(worker, line), worker >= workers] = worker, line
+    worker, line = by_reason[chance.pick(sorted(by_reason))]
     pipe, carried, kind = 0, None, STARTED
     if line < plan.lines:
         pipe, carried = run.at[line], run.carries[line]
@@ -148,7 +168,7 @@ def refused_choice(chance, plan, workers, records):
 
 def damaged(chance, plan, workers, records):
     """A journal file, the W to mark it with, and what was done to it."""
-    done = chance.pick(DAMAGES)
+    done = chance.pick(OFTEN)
     if done == EMPTY:
         return b"", workers, done
     if done == PART:

@@ -1,4 +1,4 @@
-"""Random input for the console: its plan files, its lines, and the pieces in which it comes.
+"""Random input for the console: its plan files and journals, its lines, and the pieces in which it comes.
 
 The second implementation hears each line as it is made, so that the next can go by
 its answer: takings of what was offered, say.
@@ -7,10 +7,13 @@ its answer: takings of what was offered, say.
 import os
 from collections import Counter
 
+import journal_makers
 import makers
-from console import LARGEST, LONGEST_LINE, LONGEST_PATH, Console, event_in
+import plan_file
+from console import LARGEST, LONGEST_LINE, LONGEST_PATH, Console, event_in, file_at
+from journal import COMPLETE, LONGEST_JOURNAL, SO_FAR, WRONG, journal_bytes, record_of, records_in
 from makers import raw_file, raw_record
-from plan_file import LONGEST_FILE, encode
+from plan_file import LONGEST_FILE, Refused, encode
 from run import FINISHED, REFUSED, STARTED, STOPPED
 
 # Names that a path must be read to the byte for; the last one is as long as can be.
@@ -18,6 +21,8 @@ NAMES = [
     b"a.plan", b"two words.plan", b" a space first", b"a space last ", b"bl\xc3\xa5", b"\xff\xfe",
     b"0", b"quit", b"n" * 255,
 ]
+# The same of journals, of which each has a number of its own.
+JOURNAL_NAMES = [b"j%d", b"a journal %d", b" %d first", b"%d last ", b"%d 2", b"\xff%d"]
 NOT_THERE = [
     b"missing", b"a.pla", b"A.plan", b"a.plan\0", b"\0", b"n" * 256, b".", b"/", b"no/a.plan",
     b"/dev/null",
@@ -29,7 +34,8 @@ LENGTHS = (8190, 8191, 8191, 8192, 8193, 70000, 140000)
 OTHER_WORDS = [
     b"end", b"Ended", b"endedd", b"QUIT", b"qui", b"chose 0 0", b"choose", b"offer", b"take", b"open", b"plan",
     b"?", b"R 14", b"E", b"X 0 0", b"S 0 0 0 0 0", b"draw 1", b"figures", b"sum", b"due 0", b"chain 0",
-    b"mark 1 a.plan", b"write S 1 1 a b", b"up a b", b"down a b", b"open 1 0 3 a.plan",
+    b"mark", b"mark 1", b"mark 1 ", b"mark  1 a.plan", b"Mark 1 a.plan", b"marks 1 a.plan", b"mark a.plan",
+    b"mark a.plan 1", b"write S 1 1 a b", b"up a b", b"down a b", b"open 1 0 3 a.plan",
 ]
 NO_NUMBERS = [
     b"", b"+1", b"-1", b"-0", b"a", b"1a", b"0x1", b"1.0", b"1\0", b"\0", b"\xd9\xa1", b"\xb2",
@@ -43,8 +49,14 @@ FIELDS = ("line", "pipe", "token", "place", "worker")
 OLD = "an old offer"
 PADDED = "a number with leading zeros"
 KEPT = "a plan in the middle of a run"
+MARKED = "a mark in the middle of a run"
+OWN_JOURNAL = "the open run's"
+BEYOND_W = "a journal with a worker of W or more"
+BY_ANOTHER = "a journal with a finish by another worker"
 NUL_BYTE = "a path with a NUL byte"
 MISSING = "another path to no file"
+AT_THE_LIMIT = f"a path of {LONGEST_PATH} bytes that is there"
+TOO_LONG = f"a path above {LONGEST_PATH} bytes"
 BLOCK_END = "a block's end in or at a command"
 LONG_OVER_BLOCK = "a long line that goes on as a command after a block's end"
 QUIT = "quit in the middle"
@@ -60,18 +72,30 @@ ANSWERS = {
     "offer": ("S", "F", "X", 10, 11, 12, 13, 14, 26),
     "take": ("S", "F", "X", 10, 11, 12, 13, 14, 19, 26),
     "ended": ("E", "O"),
+    "mark": (COMPLETE, SO_FAR, *(f"{WRONG} {number}" for number in (10, 11, 12, 13, 20, 26)), *range(1, 9)),
 }
 # What a long run of scripts must have tried.
 KINDS = (
     *(f"{word} {kind}" for word, kinds in ANSWERS.items() for kind in kinds),
     "?", "an empty line", f"a line above {LONGEST_LINE} bytes", f"a command of {LONGEST_LINE} bytes",
-    f"a path of {LONGEST_PATH} bytes that is there", f"a path above {LONGEST_PATH} bytes",
+    *(f"{word} with {path}" for word in ("plan", "mark") for path in (AT_THE_LIMIT, TOO_LONG, NUL_BYTE, MISSING)),
     *(f"a taking with another {field}" for field in FIELDS),
     *(f"{one} taken as {two}" for one in "SFX" for two in "SFX" if one != two),
     f"{OLD} accepted", f"{OLD} refused", f"{OLD} R 19",
-    PADDED, KEPT, BLOCK_END, LONG_OVER_BLOCK, QUIT, OPEN_END,
-    NUL_BYTE, MISSING, AS_FILE, IN_BLOCKS, IN_PIECES,
+    *(f"a journal: {done}" for done in (OWN_JOURNAL, *journal_makers.DAMAGES)),
+    PADDED, KEPT, MARKED, BEYOND_W, BY_ANOTHER, BLOCK_END, LONG_OVER_BLOCK, QUIT, OPEN_END,
+    AS_FILE, IN_BLOCKS, IN_PIECES,
 )
+
+
+def kind_of(answer):
+    """What is counted of an answer: an event's letter, a refusal's number, a verdict without its index."""
+    words = answer.split(" ")
+    if words[0] == REFUSED:
+        return words[1]
+    if words[0] == WRONG:
+        return f"{WRONG} {words[2]}"
+    return answer if answer in (COMPLETE, SO_FAR) else words[0]
 
 
 def plan_files(chance):
@@ -110,8 +134,12 @@ class Script:
         self.lines, self.answers, self.figures = [], [], Counter()
         # How many bytes the lines have, with their newlines.
         self.size = 0
-        # Events that were offered.
+        # Events that were offered, and where in the lines the run was opened.
         self.old = []
+        self.opened_at = 0
+        # Whether journals are marked, and those that are there: what each has, and its W.
+        self.marking = chance.one_in(3)
+        self.journals = {}
         # How often a choice is by any worker, and whether starts come before finishes.
         self.others = chance.between(2, 8)
         self.finish_late = chance.one_in(2)
@@ -139,10 +167,11 @@ class Script:
             self.figures[f"a line above {LONGEST_LINE} bytes"] += len(line) > LONGEST_LINE
             return answer
         word = line.split(b" ")[0].decode("ascii")
-        kind = answer.split(" ")[1] if answer[0] == REFUSED else answer[0]
-        self.figures[f"{word} {kind}"] += 1
+        self.figures[f"{word} {kind_of(answer)}"] += 1
         self.figures[f"a command of {LONGEST_LINE} bytes"] += len(line) == LONGEST_LINE
-        self.figures[KEPT] += word == "plan" and before is not None and not before.ended
+        if word in ("plan", "mark"):
+            in_a_run = before is not None and not before.ended
+            self.figures[KEPT if word == "plan" else MARKED] += in_a_run
         return answer
 
     def fill_block(self, ahead):
@@ -202,30 +231,38 @@ class Script:
         """The words of a command with numbers."""
         chance = self.chance
         worker, line = self.some_choice()
-        manner = chance.below(4)
+        workers = b"%d" % chance.pick([1, 2, 32, 33])
+        manner = chance.below(5)
         if manner == 0:
-            return [b"open", b"%d" % chance.pick([1, 2, 32, 33])]
+            return [b"open", workers]
         if manner == 1:
             return self.take_line(self.some_event(worker, line)).split(b" ")
+        if manner == 2:
+            return [b"mark", workers, chance.pick(sorted(self.journals or self.files))]
         return [chance.pick([b"choose", b"offer"]), b"%d" % worker, b"%d" % line]
 
-    def plan(self):
-        """A plan, mostly of a file that is there, once in a while by a path at the limit."""
+    def path_to(self, word, name):
+        """A path to this file, once in a while one at the limit, or one to another file or none."""
         chance = self.chance
-        name = chance.pick(sorted(self.files))
         if chance.one_in(8):
             name = chance.pick([*NOT_THERE, *NAMES, name + b"\0", name + b"\0x", name + b" ", b" " + name])
-            self.figures[NUL_BYTE if b"\0" in name else MISSING] += name not in self.files
-        elif chance.one_in(12):
-            name = os.path.join(self.folder, name)
-        elif chance.one_in(8):
-            size = chance.pick([4094, 4095, 4095, 4096, 4097])
-            before = size - len(name)
-            tried = f"a path of {size} bytes that is there"
-            if size > LONGEST_PATH:
-                tried = f"a path above {LONGEST_PATH} bytes"
-            return self.say(b"plan " + b"./" * (before // 2) + b"/" * (before % 2) + name, tried)
-        return self.say(b"plan " + name)
+            if name not in self.files and name not in self.journals:
+                what = NUL_BYTE if b"\0" in name else MISSING
+                self.figures[f"{word} with {what}"] += 1
+            return name
+        if chance.one_in(12):
+            return os.path.join(self.folder, name)
+        if not chance.one_in(8):
+            return name
+        size = chance.pick([4094, 4095, 4095, 4096, 4097])
+        if size >= LONGEST_PATH:
+            what = AT_THE_LIMIT if size == LONGEST_PATH else TOO_LONG
+            self.figures[f"{word} with {what}"] += 1
+        before = size - len(name)
+        return b"./" * (before // 2) + b"/" * (before % 2) + name
+
+    def plan(self):
+        return self.say(b"plan " + self.path_to("plan", self.chance.pick(sorted(self.files))))
 
     def open(self):
         chance = self.chance
@@ -233,7 +270,9 @@ class Script:
         if chance.one_in(8):
             limits = [0, 33, 34, 256, 257, LARGEST]
         self.old.clear()
-        return self.say(self.numbered(b"open", chance.pick(limits)))
+        answer = self.say(self.numbered(b"open", chance.pick(limits)))
+        self.opened_at = len(self.lines)
+        return answer
 
     # Takings.
 
@@ -291,6 +330,55 @@ class Script:
             self.figures[f"{OLD} {'refused' if answer[0] == REFUSED else 'accepted'}"] += 1
             self.figures[f"{OLD} R 19"] += answer == "R 19"
 
+    # Journals.
+
+    def own_journal(self):
+        """What the open run has written so far."""
+        since = zip(self.lines[self.opened_at:], self.answers[self.opened_at:])
+        answers = [
+            answer for line, answer in since
+            if answer[0] in (STARTED, FINISHED, STOPPED) and not line.startswith(b"offer")
+        ]
+        events = [event_in(answer.encode("ascii").split(b" ")) for answer in answers]
+        return journal_bytes(record_of(event) for event in events)
+
+    def new_journal(self):
+        """A journal over the kept plan, or any where that is refused; W, and what was done to it."""
+        run = self.console.run
+        if run is not None and self.chance.one_in(5):
+            return self.own_journal(), run.workers, OWN_JOURNAL
+        try:
+            plan = plan_file.read(self.console.file)
+        except Refused:
+            return journal_makers.any_journal(self.chance)
+        return journal_makers.any_journal(self.chance, plan, 300 if plan.tokens <= 60 else 100)
+
+    def some_journal(self):
+        """The name of a journal and its W: a new one, or an old one, be the plan another."""
+        chance = self.chance
+        if not self.journals or not chance.one_in(5):
+            content, workers, done = self.new_journal()
+            name = chance.pick(JOURNAL_NAMES) % len(self.journals)
+            with open(os.path.join(self.folder, name), "wb") as file:
+                file.write(content)
+            self.journals[name] = workers
+            self.figures[f"a journal: {done}"] += 1
+            return name, workers
+        name = chance.pick(sorted(self.journals))
+        return name, self.journals[name]
+
+    def mark(self):
+        chance = self.chance
+        name, workers = self.some_journal()
+        if chance.one_in(10):
+            workers = chance.pick([0, 33, workers + 256, LARGEST])
+        path = self.path_to("mark", name)
+        answer = self.say(self.numbered(b"mark", workers) + b" " + path)
+        if kind_of(answer) == f"{WRONG} 26":
+            at = int(answer.split(" ")[1])
+            record = records_in(file_at(self.folder, path, LONGEST_JOURNAL))[at]
+            self.figures[BEYOND_W if record[-1] >= workers else BY_ANOTHER] += 1
+
     # Lines that are no command.
 
     def no_command(self):
@@ -314,7 +402,8 @@ class Script:
             words[at] = chance.pick(NO_NUMBERS)
             return b" ".join(words)
         if manner == 6:
-            return b"plan " + b"p" * chance.pick([0, LONGEST_PATH + 1, LONGEST_LINE - 5])
+            command = chance.pick([b"plan ", b"mark 1 "])
+            return command + b"p" * chance.pick([0, LONGEST_PATH + 1, LONGEST_LINE - len(command)])
         if manner == 7:
             noise = bytes(chance.pick([chance.below(256), 32, 48, 49]) for _ in range(chance.below(30)))
             return noise.replace(b"\n", b"\0")
@@ -334,7 +423,9 @@ class Script:
         words = self.command()
         manner = chance.below(4)
         if manner < 2:  # a command, as far as its length goes
-            words[-1] = words[-1].rjust(size - len(b" ".join(words[:-1])) - 1, b"0")
+            at = 1 if words[0] == b"mark" else -1
+            more = size - len(b" ".join(words))
+            words[at] = b"0" * more + words[at]
             return b" ".join(words)
         if manner == 2:
             return chance.pick([b"a", b" ", b"plan ", b"ended\r"]) * (size // 4)
@@ -353,6 +444,8 @@ class Script:
 
     def step(self):
         chance = self.chance
+        if self.marking and chance.one_in(30):
+            self.mark()
         manner = chance.below(80)
         if manner < 36:
             self.say(self.numbered(b"choose", *self.some_choice()))
@@ -382,6 +475,8 @@ class Script:
         self.steps(chance.pick([0, 0, 3, 10]))
         for _ in range(chance.between(1, 5)):
             self.plan()
+            for _ in range(chance.between(1, 4) if self.marking else 0):
+                self.mark()
             opened = self.open() == "A"
             self.steps(chance.pick([5, 40, 150, 400]) if opened else chance.between(0, 8))
         if not self.one_by_one and chance.one_in(5):

@@ -15,7 +15,8 @@ import scripts
 from cases import CASES
 from chance import Chance
 from console import LONGEST_LINE, Console, console_output, event_in, lines_in, number_in
-from plan_file import encode
+from journal import LONGEST_JOURNAL, MOST_EVENTS, RECORD, journal_bytes, journal_of
+from plan_file import Plan, encode
 
 
 class InAFolder(unittest.TestCase):
@@ -124,6 +125,10 @@ class Commands(InAFolder):
             b"choose 0", b"choose 0 0 ", b"choose  0 0", b"choose 0 0 0", b"choose 0 65536", b"choose 65536 0",
             b"offer 0", b"take", b"take ", b"take X 0", b"take X 0 0 0", b"take S 0 0 0 0",
             b"take S 0 0 0 0 0 0", b"take f 0 0 0 0 0", b"take F 0 0 0 65536 0", b"a" * 70000,
+            b"mark", b"mark ", b"mark  ", b"mark 1", b"mark 1 ", b"mark  1 j", b" mark 1 j", b"mark\t1 j",
+            b"mark 1\tj", b"mark x j", b"mark 1a j", b"mark -1 j", b"mark +1 j", b"mark j", b"mark j 1",
+            b"mark 65536 j", b"mark 65537 j", b"mark 4294967297 j", b"Mark 1 j", b"mark 1 " + b"j" * 4096,
+            b"mark ".ljust(LONGEST_LINE - 1, b"0") + b"1 j", b"marks 1 j",
         ):
             before, file = self.console.run.state(), self.console.file
             self.check((line, "?"))
@@ -146,6 +151,111 @@ class Commands(InAFolder):
         self.assertEqual(console_output(self.folder, data + b"\nquit \n"), text + b"?\n")
         self.assertEqual(console_output(self.folder, b""), b"")
         self.assertEqual(console_output(self.folder, b"\n"), b"?\n")
+
+
+class Marks(InAFolder):
+    """Case a with one worker: S 0 0 0 0 0, F 0 0 0 0 0, X 0 0."""
+
+    STARTED = bytes.fromhex("53 0000 0000 0000 0000 0000")
+    FINISHED = bytes.fromhex("46 0000 0000 0000 0000 0000")
+    STOPPED = bytes.fromhex("58 0000 0000 0000 0000 0000")
+    WHOLE = STARTED + FINISHED + STOPPED
+
+    def check_journal(self, content, answer, workers=b"1"):
+        self.put("j", content)
+        self.check((b"mark " + workers + b" j", answer))
+
+    def test_verdicts(self):
+        self.check((b"plan a.plan", "P 1 1 1 0 1"))
+        self.check_journal(self.WHOLE, "complete")
+        self.check_journal(self.STARTED + self.FINISHED, "correct so far")
+        self.check_journal(self.STARTED, "correct so far")
+        self.check_journal(b"", "correct so far")
+        self.check_journal(self.FINISHED, "wrong 0 20")
+        self.check_journal(self.STARTED * 2, "wrong 1 20")
+        self.check_journal(self.WHOLE + self.STOPPED, "wrong 3 11")
+        for at, number in ((0, 20), (1, 10), (2, 10), (3, 20), (4, 20), (5, 20), (6, 20), (7, 20), (8, 20),
+                           (9, 26), (10, 26)):
+            record = bytearray(self.STARTED)
+            record[at] += 1
+            self.check_journal(bytes(record), f"wrong 0 {number}")
+            record = bytearray(self.STOPPED)
+            record[at] += 1
+            self.check_journal(self.STARTED + self.FINISHED + bytes(record), f"wrong 2 {number}")
+        self.put("d.plan", encode(CASES["d"].plan(lines=2)))
+        self.check((b"plan d.plan", "P 1 2 2 1 1"))
+        for record, number in (((83, 1, 0, 1, 0, 0), 12), ((83, 0, 0, 1, 0, 1), 26), ((83, 0, 0, 0, 0, 0), 20)):
+            self.check_journal(journal_bytes([record]), f"wrong 0 {number}")
+        start = (83, 0, 0, 1, 0, 1)
+        self.check_journal(journal_bytes([start, (70, 0, 0, 1, 0, 0)]), "wrong 1 26", b"2")
+        # Line 1 may start while worker 1 runs line 0 at pipe 1.
+        self.put("two.plan", encode(Plan([True, True], 2, 2)))
+        self.check((b"plan two.plan", "P 2 2 2 0 1"))
+        records = [(83, 0, 0, 0, 0, 1), (70, 0, 0, 0, 0, 1), (83, 0, 1, 0, 0, 1), (83, 1, 0, 1, 1, 1)]
+        self.check_journal(journal_bytes(records), "wrong 3 13", b"2")
+
+    def test_refused_openings(self):
+        # At first there is no plan.
+        self.put("j", self.WHOLE)
+        self.check((b"mark 1 j", "R 1"), (b"mark 0 j", "R 1"), (b"plan a.plan", "P 1 1 1 0 1"))
+        for workers, answer in ((0, "R 8"), (1, "complete"), (32, "complete"), (33, "R 8"), (257, "R 8"),
+                                (65535, "R 8")):
+            self.check((b"mark %d j" % workers, answer), (b"mark 000%d j" % workers, answer))
+            self.check((b"mark %d missing" % workers, answer.replace("complete", "correct so far")))
+        self.put("bad.plan", encode(CASES["a"].plan())[1:])
+        self.check((b"plan bad.plan", "R 2"), (b"mark 1 j", "R 2"), (b"mark 33 j", "R 2"))
+
+    def test_whole_records(self):
+        self.check((b"plan a.plan", "P 1 1 1 0 1"))
+        for many in range(1, RECORD):
+            self.check_journal(self.WHOLE + self.STOPPED[:many], "complete")
+            self.check_journal(b"\xff" * many, "correct so far")
+
+    def test_paths(self):
+        self.check((b"plan a.plan", "P 1 1 1 0 1"))
+        for name in scripts.NAMES[1:]:
+            self.check((b"mark 1 " + name, "correct so far"))
+            self.put(os.fsdecode(name), self.WHOLE)
+            self.check((b"mark 1 " + name, "complete"), (b"plan a.plan", "P 1 1 1 0 1"))
+        for name in scripts.NOT_THERE:
+            self.check((b"mark 1 " + name, "correct so far"))
+        # A second space is the path's own.
+        self.put(" j", self.WHOLE)
+        self.check((b"mark 1 j", "correct so far"), (b"mark 1  j", "complete"), (b"mark 1   j", "correct so far"))
+        for size, answer in ((4094, "complete"), (4095, "complete"), (4096, "?"), (4097, "?")):
+            self.check((b"mark 1 ." + b"/" * (size - 3) + b" j", answer))
+            self.check((b"mark 1 " + b"a" * size, "correct so far" if size <= 4095 else "?"))
+        line = b"mark ".ljust(LONGEST_LINE - 4, b"0") + b"1  j"
+        self.assertEqual(len(line), LONGEST_LINE)
+        self.check((line, "complete"), (line.replace(b"mark ", b"mark 0"), "?"))
+
+    def test_the_open_run_is_not_touched(self):
+        self.put("d.plan", encode(CASES["d"].plan()))
+        self.put("j", self.WHOLE)
+        self.check((b"plan d.plan", "P 1 1 2 1 1"), (b"open 2", "A"), (b"choose 1 0", "S 0 0 1 0 1"))
+        # The kept plan counts, not that of the open run.
+        for plan, answer in ((b"a.plan", "complete"), (b"missing", "R 1"), (b"d.plan", "wrong 0 20")):
+            self.console.answer(b"plan " + plan)
+            before = self.console.run.state(), self.console.file
+            self.check((b"mark 1 j", answer), (b"mark 0 j", "R 1" if answer == "R 1" else "R 8"))
+            self.assertEqual((self.console.run.state(), self.console.file), before)
+        self.check((b"offer 1 0", "F 0 0 1 0 1"), (b"choose 0 0", "R 26"), (b"choose 1 0", "F 0 0 1 0 1"))
+        self.check((b"ended", "O"), (b"mark 1 j", "wrong 0 20"), (b"choose 0 0", "S 0 0 0 1 0"))
+        # Nor is a state of zeros.
+        self.check((b"open 0", "R 8"), (b"mark 1 j", "wrong 0 20"), (b"choose 0 0", "R 14"), (b"ended", "O"))
+
+    def test_length_of_a_journal(self):
+        self.assertEqual((MOST_EVENTS, LONGEST_JOURNAL), (131073, 1441814))
+        plan = Plan(makers.big_pipes(), 32, 4096)
+        self.put("full.plan", encode(plan))
+        records, _ = journal_of(plan, 1, makers.one_worker_list(plan))
+        whole = journal_bytes(records)
+        self.check((b"plan full.plan", "P 16 32 4096 0 1"))
+        self.check_journal(whole, "complete")
+        self.check_journal(whole + whole[:10], "complete")
+        self.check_journal(whole + whole[:11], "wrong 131073 11")
+        self.check_journal(whole * 3, "wrong 131073 11")
+        self.check_journal(whole[:-1], "correct so far")
 
 
 class Scripts(unittest.TestCase):
