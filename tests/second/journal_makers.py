@@ -6,7 +6,7 @@ from run import FINISHED, STARTED, STOPPED, Run
 
 LETTERS = tuple(ord(kind) for kind in (STARTED, FINISHED, STOPPED))
 STOP = ord(STOPPED)
-# Letters that are no kind: lower case, a refusal's, the program's last line, and other bytes.
+# Letters that are no kind, beside the lower case of one: a refusal's, the program's last line's, and other bytes.
 NO_LETTERS = tuple(b"sfxREO?\0\1\xd3\xff")
 
 
@@ -38,10 +38,10 @@ def random_journal(chance, plan, most):
 # Damages: each makes records of records, of which there is at least one.
 
 def other_number(chance, number, others):
-    """Another number of 16 bits: a near one, one that differs in its high byte, one of these, or any."""
-    near = [number + 1, number - 1, number ^ 256, number ^ 32768, 0, 65535, chance.below(65536)]
-    fitting = [other for other in near + others + others if 0 <= other <= 65535 and other != number]
-    return chance.pick(fitting)
+    """Another number of 16 bits: a near one, one of these, one that differs in its high byte, or any."""
+    near = [number + 1, number - 1, 0, 65535, chance.below(65536)]
+    pool = chance.pick([near, others, [number ^ 256, number ^ 32768]])
+    return chance.pick([other for other in pool if 0 <= other <= 65535 and other != number] or [number ^ 1])
 
 
 def changed(records, at, field, value):
@@ -83,8 +83,8 @@ def other_letter(chance, records):
 
 def no_letter(chance, records):
     at = chance.below(len(records))
-    lower = records[at][0] + 32
-    return changed(records, at, 0, chance.pick([lower, *NO_LETTERS]))
+    letter = records[at][0] + 32 if chance.one_in(2) else chance.pick(NO_LETTERS)
+    return changed(records, at, 0, letter)
 
 
 def exchanged(chance, records):

@@ -474,9 +474,11 @@ class Script:
         chance = self.chance
         self.steps(chance.pick([0, 0, 3, 10]))
         for _ in range(chance.between(1, 5)):
-            self.plan()
-            for _ in range(chance.between(1, 4) if self.marking else 0):
-                self.mark()
+            accepted = self.plan()[0] == "P"
+            if self.marking:
+                # A refused plan says the same of every journal.
+                for _ in range(chance.between(2, 6) if accepted else 1):
+                    self.mark()
             opened = self.open() == "A"
             self.steps(chance.pick([5, 40, 150, 400]) if opened else chance.between(0, 8))
         if not self.one_by_one and chance.one_in(5):
