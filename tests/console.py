@@ -5,7 +5,8 @@
 
 --write makes the stored run of crates/console anew with the second implementation, --check
 fails if it differs. --program talks to the program, each answer awaited before the next
-command is sent, and then hands it files of many commands, which it must answer quickly.
+command is sent, has it mark the journals of examples/ and the longest ones, and then hands it
+files of many commands. The last two it must answer quickly.
 """
 
 import argparse
@@ -25,15 +26,18 @@ import makers
 from cases import CASES
 from chance import Chance
 from console import LONGEST_LINE, Console, answers_to, console_output, lines_in
+from journal import FIELDS, RECORD, journal_bytes, journal_of, verdict_line
 from makers import raw_file, raw_record
 from plan_file import Plan, encode
 from program import line_of
 from run import Run
-from scripts import ANSWERS, Script
+from scripts import ANSWERS, Script, kind_of
 
-# A console that does not answer fails, and so does one with fewer commands a second.
+# A console that does not answer fails, and so does one with fewer commands a second,
+# or one that takes more seconds to mark the longest journal.
 LONGEST_ANSWER = 20
 PACE = 200_000
+LONGEST_MARKING = 1
 # How often a run of 131,073 choices is timed in a row, and how many scripts are talked through.
 TIMES = 10
 TALKS = 60
@@ -58,6 +62,50 @@ def plans():
     }
     files["refused-2.plan"] = files["figure.plan"][1:]
     return files
+
+
+def marked_run():
+    """The records of the stored journals: case h by two workers, as in the README, to its end."""
+    plan = CASES["h"].plan(pipes=[True, False], lines=2)
+    lines = [0, 0, 1, 0, 1, 0, 1, 0, 1, 0, 1, 0, 0]
+    records, run = journal_of(plan, 2, makers.by_practice(plan, 2, lines))
+    assert run.ended and len(records) == len(lines)
+    return records
+
+
+def journals():
+    """Journals by name, each for `two words.plan` and W = 2: right ones, and some for each refusal."""
+    records = marked_run()
+
+    def with_one(at, **fields):
+        """The journal with other fields in one record."""
+        record = tuple(fields.get(name, number) for name, number in zip(FIELDS, records[at]))
+        return [*records[:at], record, *records[at + 1:]]
+
+    stop = next(at for at, record in enumerate(records) if record[0] == ord("X"))
+    files = {
+        "complete.journal": records,
+        "so far.journal": records[:stop + 1],
+        "wrong-10.journal": with_one(3, line=2),
+        "wrong-11.journal": records + records[-1:],
+        "wrong-12.journal": with_one(0, line=1),
+        "wrong-13.journal": with_one(3, worker=0),
+        "wrong-20-letter.journal": with_one(4, kind=ord("f")),
+        "wrong-20-kind.journal": with_one(1, kind=ord("S")),
+        "wrong-20-pipe.journal": with_one(2, pipe=1),
+        "wrong-20-token.journal": with_one(0, token=0),
+        "wrong-20-place.journal": with_one(3, place=256),
+        "wrong-20-stop.journal": with_one(stop, place=3),
+        "wrong-26-beyond.journal": with_one(0, worker=2),
+        "wrong-26-finish.journal": with_one(1, worker=1),
+    }
+    files = {name: journal_bytes(written) for name, written in files.items()}
+    files["part.journal"] = files["complete.journal"] + files["complete.journal"][:RECORD - 1]
+    return files
+
+
+def stored_files():
+    return {**plans(), **journals()}
 
 
 def on_zeros():
@@ -123,6 +171,31 @@ def small_lines():
     yield from ("plan longest.plan", "open 1", "offer 0 0", "choose 0 0", "ended")
 
 
+def mark_lines():
+    """Every journal; a run that marks leave as it is; what is no mark."""
+    yield from ("plan two words.plan", *(f"mark 2 {name}" for name in sorted(journals())))
+    # In other halls, and over other plans.
+    yield from ("mark 1 complete.journal", "mark 32 complete.journal", "mark 0002 complete.journal")
+    yield from (f"mark {workers} complete.journal" for workers in (0, 33, 258, 65535))
+    for number in range(1, 8):
+        yield from (f"plan refused-{number}.plan", "mark 2 complete.journal", "mark 0 missing.journal")
+    yield from ("plan none.plan", "mark 1 empty.plan", "mark 1 complete.journal")
+    yield from ("plan figure.plan", "mark 2 complete.journal", "mark 2 two words.plan")
+    # The open run goes on, whatever is marked, and a refused opening leaves it, too.
+    yield from ("open 2", "choose 1 0", "plan two words.plan", "mark 2 complete.journal", "offer 1 0")
+    yield from ("mark 2 wrong-26-finish.journal", "choose 1 0", "mark 0 complete.journal", "choose 1 0")
+    yield from ("plan empty.plan", "mark 2 so far.journal", "ended", "choose 0 1", "plan two words.plan")
+    # Missing ones are empty; a second space is the path's; some are no command.
+    yield from ("mark 2 missing.journal", "mark 2  complete.journal", "mark 2 complete.journal ", "mark 2 .")
+    yield from ("mark", "mark ", "mark 2", "mark 2 ", "mark  2 complete.journal", " mark 2 complete.journal")
+    yield from ("mark x complete.journal", "mark complete.journal", "mark complete.journal 2", "Mark 2 a")
+    yield from ("mark 65536 complete.journal", "mark 65538 complete.journal", "mark -2 complete.journal")
+    yield from ("mark 2 " + "./" * 2039 + "/complete.journal", "mark 2 " + "./" * 2040 + "complete.journal")
+    yield from ("mark 2 " + "a" * 4095, "mark 2 " + "a" * 4096)
+    yield from ("mark " + "0" * 8168 + "2 complete.journal", "mark " + "0" * 8169 + "2 complete.journal")
+    yield from ("offer 0 0", "choose 0 1")
+
+
 def other_lines():
     """Lines that are no command, and some that just are."""
     yield from ("plan figure.plan", "open 1", "choose 0 0")
@@ -155,7 +228,10 @@ def other_lines():
 
 def stored_input():
     """Every command, every kind of answer, and lines that are no command."""
-    lines = [*on_zeros(), "open 1", *refused_lines(), *figure_lines(), *small_lines(), *other_lines()]
+    lines = [
+        *on_zeros(), "mark 1 complete.journal", "open 1", *refused_lines(), *figure_lines(), *small_lines(),
+        *mark_lines(), *other_lines(),
+    ]
     return "\n".join(lines).encode("ascii")
 
 
@@ -163,12 +239,12 @@ def made():
     """The files of the stored run by their paths."""
     stdin = stored_input()
     with tempfile.TemporaryDirectory() as folder:
-        put_files(folder, plans())
+        put_files(folder, stored_files())
         stdout = console_output(folder, stdin)
         missing = kinds_missing(folder, stdin)
     if missing:
         raise SystemExit("console: the stored run has no " + ", ".join(missing))
-    data = {CRATE / "data" / name: content for name, content in plans().items()}
+    data = {CRATE / "data" / name: content for name, content in stored_files().items()}
     return {CRATE / "stdin": stdin, CRATE / "stdout": stdout, **data}
 
 
@@ -177,8 +253,7 @@ def kinds_missing(folder, stdin):
     lines = lines_in(stdin)
     come = set()
     for line, answer in zip(lines, answers_to(folder, lines)):
-        kind = answer.split()[1] if answer[0] == "R" else answer[0]
-        come.add(line.decode("ascii").partition(" ")[0] + " " + kind)
+        come.add(line.decode("ascii").partition(" ")[0] + " " + kind_of(answer))
     wanted = [f"{word} {kind}" for word, kinds in ANSWERS.items() for kind in kinds]
     return [kind for kind in wanted if kind not in come]
 
@@ -286,7 +361,7 @@ def talks(program, seed):
     chance = Chance(seed)
     begun = time.monotonic()
     with tempfile.TemporaryDirectory() as folder:
-        put_files(folder, plans())
+        put_files(folder, stored_files())
         # `quit` ends it while its input is open.
         many = talk(program, folder, lines_in(stored_input()), chance, close=False)
     for _ in range(TALKS):
