@@ -1,7 +1,8 @@
-"""The examples: plans and worker orders with what the program prints on them.
+"""The examples: plans, worker orders with what the program prints on them, and journals.
 
 --write makes them anew with the second implementation, --check fails if a stored one differs,
---run PROGRAM runs the program on each and compares.
+--run PROGRAM runs the program on each worker order and compares. tests/console.py has the
+console mark the journals.
 """
 
 import os
@@ -14,6 +15,7 @@ ROOT = os.path.dirname(HERE)
 FOLDER = os.path.join(ROOT, "examples")
 sys.path.insert(0, os.path.join(HERE, "second"))
 
+from journal import COMPLETE, WRONG, journal_bytes, journal_of, mark  # noqa: E402
 from plan_file import Plan, encode, read  # noqa: E402
 from makers import by_practice, one_worker_list, program_input  # noqa: E402
 from program import output  # noqa: E402
@@ -31,6 +33,10 @@ PLANS = {
     # A parallel second pipe lets token 1 overtake token 0.
     "overtaking": Plan([SERIAL, PARALLEL], 2, 2, []),
 }
+
+
+# The small run of the README, by two workers over `backwards`.
+SMALL_RUN = list(zip([0, 0, 0, 1, 0, 1, 0, 1, 0, 1, 0, 0, 0], [0, 0, 1, 0, 1, 0, 1, 0, 1, 0, 1, 0, 0]))
 
 
 def one_worker(plan):
@@ -67,6 +73,16 @@ def orders():
     yield "backwards.refused-more", "backwards", program_input(3, choices)
 
 
+def journals():
+    """Each journal's name, its plan's name and W, its records and the verdict on it."""
+    records, _ = journal_of(PLANS["backwards"], 2, SMALL_RUN)
+    yield "backwards.complete", "backwards", 2, records, (COMPLETE,)
+    # Token 0 let in before token 1, for which it waits.
+    kind, line, pipe, _, place, worker = records[2]
+    mistaken = [*records[:2], (kind, line, pipe, 0, place, worker), *records[3:]]
+    yield "backwards.mistake", "backwards", 2, mistaken, (WRONG, 2, 20)
+
+
 def files():
     for name, plan in PLANS.items():
         data = encode(plan)
@@ -75,6 +91,9 @@ def files():
     for name, plan, choices in orders():
         yield name + ".choices", choices
         yield name + ".output", output(encode(PLANS[plan]), choices)
+    for name, plan, workers, records, verdict in journals():
+        assert mark(encode(PLANS[plan]), workers, records)[0] == verdict
+        yield name + ".journal", journal_bytes(records)
 
 
 def write():
