@@ -22,6 +22,7 @@ ROOT = HERE.parent
 CRATE = ROOT / "crates" / "console"
 sys.path.insert(0, str(HERE / "second"))
 
+import examples
 import makers
 from cases import CASES
 from chance import Chance
@@ -372,6 +373,70 @@ def talks(program, seed):
     print(f"console: {many} answers, each before the next command was sent, in {took:.1f} s")
 
 
+# Journals.
+
+def ask(there, line, expected):
+    """How long one command took to be answered as it should be."""
+    begun = time.monotonic()
+    there.say(line.encode("ascii") + b"\n")
+    heard = there.hear()
+    took = time.monotonic() - begun
+    if heard != expected.encode("ascii"):
+        raise SystemExit(f"console: {line!r} was answered by {heard!r}, not {expected!r}")
+    return took
+
+
+def example_marks(program):
+    """The journals of examples/, as its README has them marked."""
+    there = Talk(program, ROOT)
+    try:
+        for name, plan, workers, _, verdict in examples.journals():
+            header = Console(ROOT).answer(b"plan examples/%s.plan" % plan.encode("ascii"))
+            ask(there, f"plan examples/{plan}.plan", header)
+            ask(there, f"mark {workers} examples/{name}.journal", verdict_line(verdict))
+        there.end()
+    finally:
+        there.process.kill()
+
+
+def long_journals(records):
+    """The longest journal, and more or less than that: by name, with the verdict on each."""
+    whole = journal_bytes(records)
+    return {
+        "whole": (whole, "complete"),
+        "part": (whole + whole[:RECORD - 1], "complete"),
+        "more": (whole + whole[:RECORD], "wrong 131073 11"),
+        "longer": (whole * 4, "wrong 131073 11"),
+        "less": (whole[:-RECORD], "correct so far"),
+    }
+
+
+def long_marks(program):
+    """Each long journal is marked in time, in the middle of a run, which goes on."""
+    plan = Plan(makers.big_pipes(), 32, 4096)
+    choices = makers.one_worker_list(plan)
+    journals = long_journals(journal_of(plan, 1, choices)[0])
+    run = Run(plan, 1)
+    longest = 0
+    with tempfile.TemporaryDirectory() as folder:
+        put_files(folder, {"full.plan": encode(plan), **{name: data for name, (data, _) in journals.items()}})
+        there = Talk(program, folder)
+        try:
+            ask(there, "plan full.plan", "P 16 32 4096 0 1")
+            ask(there, "open 1", "A")
+            for at, (name, (_, verdict)) in enumerate(journals.items()):
+                for worker, line in choices[21 * at:21 * at + 21]:
+                    ask(there, f"choose {worker} {line}", line_of(run.choose(worker, line)))
+                longest = max(longest, ask(there, f"mark 1 {name}", verdict))
+            ask(there, f"offer 0 {line}", line_of(run.offer(0, line)))
+            there.end()
+        finally:
+            there.process.kill()
+    print(f"console: {len(journals)} long journals, the slowest marked in {longest:.2f} s")
+    if longest > LONGEST_MARKING:
+        raise SystemExit(f"console: {LONGEST_MARKING} s at most are wanted")
+
+
 # Many commands in one file.
 
 def full_run(offers):
@@ -411,6 +476,8 @@ def in_one_file(program, what, offers, times):
 def run(program, seed):
     program = str(Path(program).resolve())
     talks(program, seed)
+    example_marks(program)
+    long_marks(program)
     in_one_file(program, "choices", False, TIMES)
     in_one_file(program, "offers and takings", True, TIMES // 2)
 
