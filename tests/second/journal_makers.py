@@ -6,7 +6,7 @@ from run import FINISHED, STARTED, STOPPED, Run
 
 LETTERS = tuple(ord(kind) for kind in (STARTED, FINISHED, STOPPED))
 STOP = ord(STOPPED)
-# Letters that are no kind, beside the lower case of one: a refusal's, the program's last line's, and other bytes.
+# Letters that are no kind.
 NO_LETTERS = tuple(b"sfxREO?\0\1\xd3\xff")
 
 
@@ -31,7 +31,9 @@ def random_journal(chance, plan, most):
     workers = random_workers(chance)
     records, _ = journal_of(plan, workers, random_choices(chance, plan, workers, most))
     if chance.one_in(3):
-        records = records[:chance.between(0, len(records))]
+        # Often just before the end, where a run may have stopped and has not ended.
+        left = chance.pick([chance.between(0, len(records)), len(records) - chance.between(1, 4)])
+        records = records[:max(0, left)]
     return workers, records
 
 
@@ -76,13 +78,23 @@ def busy_worker(chance, records):
     return changed(records, at, FIELDS.index("worker"), worker)
 
 
+def stops_in(records):
+    return [at for at, record in enumerate(records) if record[0] == STOP]
+
+
+def some_letter(chance, records):
+    """An index, not too seldom that of the stop, of which there is one at most."""
+    stops = stops_in(records)
+    return stops[0] if stops and chance.one_in(4) else chance.below(len(records))
+
+
 def other_letter(chance, records):
-    at = chance.below(len(records))
+    at = some_letter(chance, records)
     return changed(records, at, 0, chance.pick([kind for kind in LETTERS if kind != records[at][0]]))
 
 
 def no_letter(chance, records):
-    at = chance.below(len(records))
+    at = some_letter(chance, records)
     letter = records[at][0] + 32 if chance.one_in(2) else chance.pick(NO_LETTERS)
     return changed(records, at, 0, letter)
 
@@ -114,12 +126,10 @@ def one_more(chance, records):
 
 def stop_with_numbers(chance, records):
     """The stop, or a last one put in, with a number where a stop has 0."""
-    stops = [at for at, record in enumerate(records) if record[0] == STOP]
-    if not stops:
-        stops = [len(records)]
+    if not stops_in(records):
         records = records + [(STOP, chance.below(3), 0, 0, 0, records[-1][-1])]
     field = chance.between(2, 4)
-    return changed(records, stops[0], field, chance.pick([1, 2, 256, 65535]))
+    return changed(records, stops_in(records)[0], field, chance.pick([1, 2, 256, 65535]))
 
 
 AS_IT_WAS = "as it was"
@@ -139,8 +149,8 @@ BY_RECORDS = {
     "a stop with numbers": stop_with_numbers,
 }
 DAMAGES = (AS_IT_WAS, EMPTY, PART, REFUSED_CHOICE, OTHER_W, *BY_RECORDS)
-# These have the most that may follow, so they come more often.
-OFTEN = (*DAMAGES, AS_IT_WAS, AS_IT_WAS, AS_IT_WAS, REFUSED_CHOICE, REFUSED_CHOICE, "a record more", "a record more")
+# Those with the most that may follow come more often, and one that many runs have no place for.
+OFTEN = DAMAGES + 2 * (AS_IT_WAS, REFUSED_CHOICE, "a record more", "a busy worker")
 
 
 def refused_choice(chance, plan, workers, records):
@@ -169,6 +179,7 @@ def refused_choice(chance, plan, workers, records):
 def damaged(chance, plan, workers, records):
     """A journal file, the W to mark it with, and what was done to it."""
     done = chance.pick(OFTEN)
+    as_it_was = records
     if done == EMPTY:
         return b"", workers, done
     if done == PART:
@@ -180,7 +191,8 @@ def damaged(chance, plan, workers, records):
         workers = chance.pick([workers - 1, workers + 1, 1, 2, 32])
     elif done in BY_RECORDS and records:
         records = BY_RECORDS[done](chance, records)
-    else:
+    # Some records have no such damage.
+    if records == as_it_was and done != OTHER_W:
         done = AS_IT_WAS
     return journal_bytes(records), workers, done
 

@@ -137,7 +137,7 @@ class Script:
         # Events that were offered, and where in the lines the run was opened.
         self.old = []
         self.opened_at = 0
-        # Whether journals are marked, and those that are there: what each has, and its W.
+        # Whether journals are marked, and the names of those that are there, each with its W.
         self.marking = chance.one_in(3)
         self.journals = {}
         # How often a choice is by any worker, and whether starts come before finishes.
@@ -379,6 +379,14 @@ class Script:
             record = records_in(file_at(self.folder, path, LONGEST_JOURNAL))[at]
             self.figures[BEYOND_W if record[-1] >= workers else BY_ANOTHER] += 1
 
+    def plan_and_marks(self):
+        if self.plan()[0] != "P":
+            # It says the same of every journal, so one will do.
+            self.mark()
+        elif self.marking:
+            for _ in range(self.chance.between(2, 6)):
+                self.mark()
+
     # Lines that are no command.
 
     def no_command(self):
@@ -474,11 +482,7 @@ class Script:
         chance = self.chance
         self.steps(chance.pick([0, 0, 3, 10]))
         for _ in range(chance.between(1, 5)):
-            accepted = self.plan()[0] == "P"
-            if self.marking:
-                # A refused plan says the same of every journal.
-                for _ in range(chance.between(2, 6) if accepted else 1):
-                    self.mark()
+            self.plan_and_marks()
             opened = self.open() == "A"
             self.steps(chance.pick([5, 40, 150, 400]) if opened else chance.between(0, 8))
         if not self.one_by_one and chance.one_in(5):

@@ -1152,7 +1152,7 @@ class MarkingAJournal(unittest.TestCase):
             seen[done] += 1
             seen[verdict[0], verdict[-1]] += 1
         for done in journal_makers.DAMAGES:
-            self.assertGreater(seen[done], 20, done)
+            self.assertGreater(seen[done], 10, done)
         for number in (10, 11, 12, 13, 20, 26):
             self.assertGreater(seen[WRONG, number], 15, number)
         self.assertEqual(len(seen), len(journal_makers.DAMAGES) + 8)
