@@ -2,8 +2,8 @@
 use mathlib.Core.Path.{_≡_, refl, sym, ap, subst, _∙_}
 use mathlib.Core.Logic.{inl, inr}
 use mathlib.Core.Bool.{Bool, true, false}
-use mathlib.Core.List.{List, _++_}
-use Prim.Native.Nat.{ℕ, _≤_}
+use mathlib.Core.List.{List, _++_, map}
+use Prim.Native.Nat.{ℕ, _+_, _*_, _≤_}
 use native.Mathlib.Omega.{arith}
 use lib.ListN.{length, take, drop}
 use Rattle.vocabulary.specs.Refusals.{numberOf}
@@ -11,11 +11,15 @@ use Rattle.vocabulary.specs.declared.event.EventRecord.{EventRecord}
 use Rattle.vocabulary.specs.declared.refusal.Refusal.{Refusal}
 use Rattle.rules.specs.RunState.{Machine}
 use Rattle.rules.specs.Ranges.{sound}
-use Rattle.rules.specs.Choices.{Choice, ended}
-use Rattle.rules.specs.WholeRuns.{accepted}
+use Rattle.rules.specs.Choices.{Choice, ended, opened}
+use Rattle.rules.specs.Offers.{recordOf}
+use Rattle.rules.specs.MoreWorkers.{withoutRefusals, acceptedIn}
+use Rattle.rules.specs.WholeRuns.{WorkersInRange, accepted}
 use Rattle.rules.specs.Journals.{Verdict, goesOn, closing, Marked, markEvents, markMore, journalOf, JournalMarked}
 use Rattle.rules.specs.Journals as paper
 use Rattle.rules.proofs.lists.Tests.{by-test, bool-ext}
+use Rattle.rules.proofs.runs.AcceptedOnly.{events-kept}
+use Rattle.rules.proofs.runs.MoreWorkers.{more-workers as rules-more}
 use Rattle.rules.proofs.runs.Journals.{journal-order, journal-length, more-stuck, journal-marked}
 use Rattle.fields.specs.Bytes.{Bytes}
 use Rattle.plan.specs.Plan.{Plan}
@@ -30,10 +34,10 @@ use Rattle.opening.specs.declared.Opening.{Opening}
 use Rattle.opening.specs.Opened.{openedMachine, openOf}
 use Rattle.marking.specs.declared.Marking.{Marking}
 use Rattle.marking.specs.Marking.{verdictOf, openedVerdict, begun, overIn, walked, closed, leftMemory}
-use Rattle.demands.specs.Demands.{told, left, Shows, Demands}
+use Rattle.demands.specs.Demands.{order, told, left, Shows, Demands}
 use Rattle.demands.specs.OpenedRun.{OpenedRun}
 use Rattle.demands.specs.CodeRuns.{Session, eventsOf}
-use Rattle.demands.specs.CodeJournals.{MarkCall, Passes, MarkedRun, CodeMarks, SessionMarked}
+use Rattle.demands.specs.CodeJournals.{MarkCall, Passes, MarkedRun, CodeMarks, SessionMarked, SameWithMore}
 use Rattle.demands.proofs.Demands.{plain-end}
 use Rattle.demands.proofs.Opens.{refusing, opened-run, opens-exactly}
 use Rattle.demands.proofs.CodeRuns.{left-sound, RunOf, here as opened-here, run-of}
@@ -241,3 +245,50 @@ module _ {file : List ℕ} (bytes : Bytes file) {workers : ℕ} {lent : List ℕ
         (plain-end p (marked .valid) m workers (marked .manned) cs ∙ sym (plain-end p (marked .valid) lent workers (marked .manned) cs))
         ∙ sym (ap (λ (a : Machine tables.State). take 32768 (a .source .1)) (run .left-is));
   }
+
+-- a journal marked with W workers, and with more
+module _ (file : List ℕ) (bytes : Bytes file) (events : List EventRecord) {w v : ℕ} (more : w ≤ v) (most : v ≤ 32)
+    (m m′ k k′ : List ℕ) (r q : Marking) (called : MarkCall file w events m r m′) (again : MarkCall file v events k q k′)
+    (accepts-first : openOf file w m .0 .answer ≡ Opening.Accepted) (long : 32768 ≤ length k) where
+  first : MarkedRun file w events m r m′
+  first = code-marks file bytes w events m r m′ called .accepted accepts-first
+
+  manned : WorkersInRange v
+  manned = record { some = omega (arith, first .manned .some); most = most }
+
+  second : MarkedRun file v events k q k′
+  second = code-marks file bytes v events k q k′ again .accepted (opens-exactly file bytes v k .1 (first .plan, first .valid, first .file-is, manned, long))
+
+  same-plan : second .plan ≡ first .plan
+  same-plan = one-plan (second .plan) (first .plan) (second .valid) (first .valid) (sym (second .file-is) ∙ first .file-is)
+
+  run-first : OpenedRun file w m
+  run-first = opened-run file bytes w m accepts-first
+
+  demanded-first : Demands (first .plan)
+  demanded-first = subst Demands (one-plan (run-first .plan) (first .plan) (run-first .valid) (first .valid) (sym (run-first .file-is) ∙ first .file-is)) (run-first .demands)
+
+  -- the accepted of its choices give it with more workers too
+  given-more : Passes r → (ds : List Choice) × (journalOf (told (second .plan) k v ds) ≡ events)
+  unfolding opened
+  given-more ok =
+      let (cs, g) = first .passes .0 ok in
+      let p = first .plan in
+      let ds : List Choice = acceptedIn memorySource (openedMachine p w m) cs in
+      let reused = rules-more memorySource (openedMachine p w m) .accepted-reused v more most cs in
+      let told-is : told p k v ds ≡ withoutRefusals (told p m w cs) =
+      demanded-first .runs k long v manned ds .answers-as-rules ∙ sym (demanded-first .runs m (first .enough) v manned ds .answers-as-rules) ∙ reused .events in
+      (ds, ap (λ x. journalOf (told x k v ds)) same-plan ∙ ap journalOf told-is ∙ ap (map recordOf) (events-kept (told p m w cs)) ∙ g)
+
+  by-word : (x y : Marking) → Passes x → Passes y → (x ≡ Marking.Complete → y ≡ Marking.Complete) → (y ≡ Marking.Complete → x ≡ Marking.Complete) → y ≡ x
+  by-word x y (inl e) py there back = there e ∙ sym e
+  by-word x y (inr e) (inl f) there back = f ∙ sym (back f)
+  by-word x y (inr e) (inr f) there back = f ∙ sym e
+
+  pub marked-with-more : SameWithMore r q
+  marked-with-more ok =
+      let passes = second .passes .1 (given-more ok) in
+      let size = ap (λ x. 2 * length (order x) * length (x .kinds) + 1) same-plan in
+      by-word r q ok passes
+      (λ e. second .count passes .1 (first .count ok .0 e ∙ sym size))
+      (λ e. first .count ok .1 (second .count passes .0 e ∙ size))

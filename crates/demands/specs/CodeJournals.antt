@@ -71,3 +71,7 @@ pub record SessionMarked {file : List ℕ} {workers : ℕ} {lent : List ℕ} {ch
   pub complete : endedOf (s .state) ≡ true → r ≡ Marking.Complete
   pub so-far : endedOf (s .state) ≡ false → r ≡ Marking.CorrectSoFar
   pub memory : take 32768 m′ ≡ take 32768 (s .memory)
+
+-- a journal that passes in a hall with W workers gets the same word in one with more, up to 32, in whatever memory (2.12)
+abbrev pub SameWithMore : Marking → Marking → Type 0
+SameWithMore r larger = Passes r → larger ≡ r

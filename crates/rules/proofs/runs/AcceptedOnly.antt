@@ -33,6 +33,14 @@ events-accepted (a ∷ told) = elim (kind a) [
   | refusal e n q ↦ rw e (events-accepted told)
 ]
 
+pub events-kept : (told : List Answer) → withoutRefusals (withoutRefusals told) ≡ withoutRefusals told
+unfolding keep
+events-kept [] = refl
+events-kept (a ∷ told) = elim (kind a) [
+  | event e ok ↦ rw (e, e, events-kept told)
+  | refusal e n q ↦ rw e (events-kept told)
+]
+
 module _ {X : Type 0} (S : Source X) where
   pub only-told : (m : Machine X) (cs : List Choice) → answers S m (acceptedIn S m cs) ≡ withoutRefusals (answers S m cs)
   unfolding answers acceptedChoices keep
