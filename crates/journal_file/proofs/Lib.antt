@@ -1,0 +1,2 @@
+-- A journal's records, one by one.
+pub mod Steps

@@ -1,0 +1,2 @@
+-- A journal's records in a file.
+pub mod Records
