@@ -5,11 +5,11 @@ use Prim.Native.Nat.{ℕ}
 use Rattle.rules.specs.Lists.{has, within}
 use Rattle.words.specs.Words.{upTo, past, same, wordsIn}
 use Rattle.words.specs.Numbers.{digits, valueFrom, numberOf}
-use Rattle.commands.specs.Commands.{endedWord, quitWord, planWord, openWord, chooseWord, offerWord, takeWord, aloneOf, isPath, planOf, openOf, chooseOf, offerOf, startedOf, finishedOf, stoppedOf, eventOf, takeOf, argumentsOf, commandOf}
+use Rattle.commands.specs.Commands.{endedWord, quitWord, planWord, openWord, chooseWord, offerWord, takeWord, markWord, aloneOf, isPath, planOf, openOf, chooseOf, offerOf, startedOf, finishedOf, stoppedOf, eventOf, takeOf, markOf, argumentsOf, commandOf}
 use Rattle.commands.specs.Arguments.{space, pairIn, stepIn}
 use Rattle.vocabulary.specs.declared.event.Event.{Event}
 use Rattle.commands.specs.declared.Command.{Command}
-use Rattle.commands.specs.declared.Command.the-variants.{Plan, Open, Choose, Offer, Take, Ended, Quit, Unknown}
+use Rattle.commands.specs.declared.Command.the-variants.{Plan, Open, Choose, Offer, Take, Mark, Ended, Quit, Unknown}
 
 abbrev lines : List (List ℕ)
 lines =
@@ -36,6 +36,10 @@ lines =
     (takeWord ++ space ∷ 88 ∷ space ∷ 49 ∷ []) ∷
     (takeWord ++ space ∷ 83 ∷ space ∷ 49 ∷ space ∷ 50 ∷ space ∷ 51 ∷ space ∷ 52 ∷ []) ∷
     (takeWord ++ space ∷ 82 ∷ space ∷ 49 ∷ space ∷ 50 ∷ []) ∷
+    (markWord ++ space ∷ 51 ∷ 50 ∷ space ∷ 97 ∷ space ∷ 98 ∷ []) ∷
+    (markWord ++ space ∷ 51 ∷ 50 ∷ space ∷ []) ∷
+    (markWord ++ space ∷ 51 ∷ 50 ∷ []) ∷
+    (markWord ++ space ∷ 97 ∷ space ∷ 97 ∷ []) ∷
     (space ∷ endedWord) ∷
     [] ∷
     []
@@ -65,10 +69,14 @@ asked =
     Unknown ∷
     Unknown ∷
     Unknown ∷
+    Mark (record { workers = 32; start = 8 }) ∷
+    Unknown ∷
+    Unknown ∷
+    Unknown ∷
     Unknown ∷
     Unknown ∷
     []
 
 pub some-lines : map commandOf lines ≡ asked
-unfolding commandOf aloneOf argumentsOf isPath planOf openOf chooseOf offerOf startedOf finishedOf stoppedOf eventOf takeOf pairIn stepIn upTo past same wordsIn has within digits valueFrom numberOf
+unfolding commandOf aloneOf argumentsOf isPath planOf openOf chooseOf offerOf startedOf finishedOf stoppedOf eventOf takeOf markOf pairIn stepIn upTo past same wordsIn has within digits valueFrom numberOf
 some-lines = refl

@@ -15,10 +15,10 @@ use Rattle.commands.specs.declared.numbers.Pair as pair
 use Rattle.commands.specs.declared.numbers.StepNumbers as step
 use Rattle.commands.specs.declared.Choice.{Choice}
 use Rattle.commands.specs.declared.Command.{Command}
-use Rattle.commands.specs.declared.Command.the-variants.{Plan, Open, Choose, Offer, Take, Ended, Quit, Unknown}
+use Rattle.commands.specs.declared.Command.the-variants.{Plan, Open, Choose, Offer, Take, Mark, Ended, Quit, Unknown}
 use Rattle.commands.specs.Arguments.{space, wordsIn, pairIn, stepIn}
 
--- the commands' words: `ended`, `quit`, `plan`, `open`, `choose`, `offer`, `take`, and the kinds of events, `S`, `F`, `X`
+-- the commands' words: `ended`, `quit`, `plan`, `open`, `choose`, `offer`, `take`, `mark`, and the kinds of events, `S`, `F`, `X`
 abbrev pub endedWord : List ℕ
 endedWord = 101 ∷ 110 ∷ 100 ∷ 101 ∷ 100 ∷ []
 
@@ -39,6 +39,9 @@ offerWord = 111 ∷ 102 ∷ 102 ∷ 101 ∷ 114 ∷ []
 
 abbrev pub takeWord : List ℕ
 takeWord = 116 ∷ 97 ∷ 107 ∷ 101 ∷ []
+
+abbrev pub markWord : List ℕ
+markWord = 109 ∷ 97 ∷ 114 ∷ 107 ∷ []
 
 abbrev pub startedWord : List ℕ
 startedWord = 83 ∷ []
@@ -125,6 +128,12 @@ unfoldable pub takeOf : List (List ℕ) → Command
 takeOf [] = Unknown
 takeOf (kind ∷ numbers) = eventOf kind numbers
 
+-- `mark W PATH`: W is the first word; the path is what follows its space, as `plan` has it
+unfoldable pub markOf : ℕ → List ℕ → Command
+markOf start text =
+    must (isPath (past space text)) Unknown
+    (numbered (λ w. Mark (record { workers = w; start = start + (length (upTo space text) + 1) })) (shortOf (upTo space text)))
+
 -- a command with arguments: its first word, where the rest of the line starts, and that rest
 unfoldable pub argumentsOf : List ℕ → ℕ → List ℕ → Command
 argumentsOf word start rest =
@@ -133,7 +142,8 @@ argumentsOf word start rest =
     (if (same word chooseWord) (chooseOf (wordsIn rest))
     (if (same word offerWord) (offerOf (wordsIn rest))
     (if (same word takeWord) (takeOf (wordsIn rest))
-    Unknown))))
+    (if (same word markWord) (markOf start rest)
+    Unknown)))))
 
 -- what a line asks for: a line has at most 8,191 bytes; its first word ends at its first space
 unfoldable pub commandOf : List ℕ → Command

@@ -3,8 +3,10 @@ mod numbers;
 mod taking;
 
 ghost use mathlib.Core.Path.{_≡_};
+ghost use Prim.Native.Nat.{_+_, _≤_};
+ghost use lib.ListN.{length};
 ghost use Rattle.commands.specs.Arguments.{wordsIn};
-ghost use Rattle.commands.specs.Commands.{aloneOf, isPath, planOf, openOf, chooseOf, offerOf, argumentsOf, commandOf};
+ghost use Rattle.commands.specs.Commands.{aloneOf, isPath, planOf, openOf, chooseOf, offerOf, markOf, argumentsOf, commandOf};
 use numbers::Pair;
 use vocabulary::Event;
 use vocabulary::Line;
@@ -17,6 +19,12 @@ pub struct Choice {
     pub line: Line,
 }
 
+// A journal to mark: the workers of its run, and the start of its path.
+pub struct JournalAt {
+    pub workers: u16,
+    pub start: usize,
+}
+
 // A path is told by its start in the line; it is the rest of the line.
 pub enum Command {
     Plan(usize),
@@ -24,6 +32,7 @@ pub enum Command {
     Choose(Choice),
     Offer(Choice),
     Take(Event),
+    Mark(JournalAt),
     Ended,
     Quit,
     Unknown,
@@ -103,8 +112,27 @@ fn offer_of(text: &[u8]) -> Command
     }
 }
 
+// `mark W PATH`
+fn mark_of(text: &[u8], start: usize) -> Command
+    requires { ⌜ start + length (now text) ≤ 8191 ⌝ }
+    ensures { λ r. ⌜ r ≡ markOf start (now (text .entry)) ⌝ }
+{
+    let at = words::find_past(text, b' ');
+    if !is_path(&text[at..]) {
+        return Command::Unknown;
+    }
+    match words::read_first(text, b' ') {
+        ShortNumber::Value(workers) => Command::Mark(JournalAt {
+            workers: workers,
+            start: start + at,
+        }),
+        ShortNumber::Missing => Command::Unknown,
+    }
+}
+
 // A command with arguments: its first word, and the rest of the line, which starts there.
 fn with_arguments(word: &[u8], start: usize, rest: &[u8]) -> Command
+    requires { ⌜ start + length (now rest) ≤ 8191 ⌝ }
     ensures { λ r. ⌜ r ≡ argumentsOf (now (word .entry)) start (now (rest .entry)) ⌝ }
 {
     if words::same(word, b"plan") {
@@ -121,6 +149,9 @@ fn with_arguments(word: &[u8], start: usize, rest: &[u8]) -> Command
     }
     if words::same(word, b"take") {
         return taking::take_of(rest);
+    }
+    if words::same(word, b"mark") {
+        return mark_of(rest, start);
     }
     Command::Unknown
 }

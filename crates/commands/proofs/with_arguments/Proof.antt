@@ -89,15 +89,36 @@ returns-5 c =
     let first = second .before .before .before in
     rw (← first .before .same .ensures, first .if1 .left, ← second .before .same2 .ensures, second .if2 .left, ← third .before .same3 .ensures, third .if3 .left, ← fourth .before .same4 .ensures, fourth .if4 .left, ← fifth .before .same5 .ensures, fifth .if5 .taken) (c .take-of .ensures)
 
+slice-aggregate-same-6 : tie.Need-slice-aggregate-same-6
+slice-aggregate-same-6 c = search needs
+
+same-requires-6 : tie.Need-same-requires-6
+same-requires-6 c κs = search needs
+
+mark-of-requires : tie.Need-mark-of-requires
+mark-of-requires c κs = search needs
+
 returns-6 : tie.Need-returns-6
 unfolding argumentsOf
 returns-6 c =
-    let fifth = c in
+    let sixth = c .before in
+    let fifth = sixth .before .before .before in
     let fourth = fifth .before .before .before in
     let third = fourth .before .before .before in
     let second = third .before .before .before in
     let first = second .before .before .before in
-    rw (← first .before .same .ensures, first .if1 .left, ← second .before .same2 .ensures, second .if2 .left, ← third .before .same3 .ensures, third .if3 .left, ← fourth .before .same4 .ensures, fourth .if4 .left, ← fifth .before .same5 .ensures, fifth .if5 .left)
+    rw (← first .before .same .ensures, first .if1 .left, ← second .before .same2 .ensures, second .if2 .left, ← third .before .same3 .ensures, third .if3 .left, ← fourth .before .same4 .ensures, fourth .if4 .left, ← fifth .before .same5 .ensures, fifth .if5 .left, ← sixth .before .same6 .ensures, sixth .if6 .taken) (c .mark-of .ensures)
+
+returns-7 : tie.Need-returns-7
+unfolding argumentsOf
+returns-7 c =
+    let sixth = c in
+    let fifth = sixth .before .before .before in
+    let fourth = fifth .before .before .before in
+    let third = fourth .before .before .before in
+    let second = third .before .before .before in
+    let first = second .before .before .before in
+    rw (← first .before .same .ensures, first .if1 .left, ← second .before .same2 .ensures, second .if2 .left, ← third .before .same3 .ensures, third .if3 .left, ← fourth .before .same4 .ensures, fourth .if4 .left, ← fifth .before .same5 .ensures, fifth .if5 .left, ← sixth .before .same6 .ensures, sixth .if6 .left)
 
 pub with-arguments-spec : {M : Type 1} → statement M
 with-arguments-spec =
@@ -123,4 +144,8 @@ with-arguments-spec =
     same-requires-5
     take-of-requires
     returns-5
-    returns-6)
+    slice-aggregate-same-6
+    same-requires-6
+    mark-of-requires
+    returns-6
+    returns-7)
