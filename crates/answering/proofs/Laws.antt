@@ -18,12 +18,14 @@ use Rattle.opening.specs.declared.Opened.{Opened}
 use Rattle.opening.specs.Opened.{openOf}
 use Rattle.engine.specs.declared.Chosen.{Chosen}
 use Rattle.engine.specs.Machines.{chosenOf}
+use Rattle.marking.specs.declared.Marking.{Marking}
+use Rattle.marking.specs.Marking.{verdictOf}
 use Rattle.sink.specs.Sinks.{Output, putOf, putEach}
 use Rattle.sink.proofs.Putting.{put-one}
-use Rattle.printing.specs.Texts.{refusalTexts, answerTexts}
+use Rattle.printing.specs.Texts.{lineTexts, refusalTexts, answerTexts}
 use Rattle.session.specs.Printed.{closingTexts}
 use Rattle.commands.specs.declared.Command.{Command}
-use Rattle.answering.specs.Lines.{headerTexts, readingTexts, openingTexts}
+use Rattle.answering.specs.Lines.{headerTexts, readingTexts, openingTexts, wrongTexts, markingTexts}
 use Rattle.answering.specs.Answers.{Held, told, openedIn, after, endedIn, answered}
 
 module _ (o : Output) {r : Output} where
@@ -46,6 +48,29 @@ module _ (o : Output) {r : Output} where
       r ≡ putEach o (openingTexts a)
   unfolding openingTexts
   opens-not e r-is = rw e r-is
+
+  -- a journal
+  pub wrong-put : (i : ℕ) {n m : ℕ} → n ≡ m → r ≡ putEach o (lineTexts (119 ∷ 114 ∷ 111 ∷ 110 ∷ 103 ∷ []) (i ∷ n ∷ [])) → r ≡ putEach o (wrongTexts i m)
+  unfolding wrongTexts
+  wrong-put i n-is r-is = rw (← n-is) r-is
+
+  pub marks-complete : {k : Marking} → k ≡ Marking.Complete → r ≡ putOf o (99 ∷ 111 ∷ 109 ∷ 112 ∷ 108 ∷ 101 ∷ 116 ∷ 101 ∷ 10 ∷ []) → r ≡ putEach o (markingTexts (verdictOf k))
+  unfolding markingTexts
+  marks-complete e r-is = rw e (put-one o _ r-is)
+
+  pub marks-so-far : {k : Marking} → k ≡ Marking.CorrectSoFar → r ≡ putOf o (99 ∷ 111 ∷ 114 ∷ 114 ∷ 101 ∷ 99 ∷ 116 ∷ 32 ∷ 115 ∷ 111 ∷ 32 ∷ 102 ∷ 97 ∷ 114 ∷ 10 ∷ []) → r ≡ putEach o (markingTexts (verdictOf k))
+  unfolding markingTexts
+  marks-so-far e r-is = rw e (put-one o _ r-is)
+
+  pub marks-wrong : {k : Marking} {i : ℕ} {why : Refusal} → k ≡ Marking.Wrong i why → r ≡ putEach o (wrongTexts i (numberOf why)) →
+      r ≡ putEach o (markingTexts (verdictOf k))
+  unfolding markingTexts
+  marks-wrong e r-is = rw e r-is
+
+  pub marks-none : {k : Marking} {why : Refusal} → k ≡ Marking.NotOpened why → r ≡ putEach o (refusalTexts (numberOf why)) →
+      r ≡ putEach o (markingTexts (verdictOf k))
+  unfolding markingTexts
+  marks-none e r-is = rw e r-is
 
   -- the console after a choice
   pub chosen-is : (chosen : Chosen) {memory : List ℕ} {made : rules.Chosen tables.State} → chosenOf chosen memory ≡ made →

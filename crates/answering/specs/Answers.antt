@@ -16,7 +16,7 @@ use Rattle.session.specs.Printed.{closingTexts}
 use Rattle.session.specs.declared.Session.{Session}
 use Rattle.commands.specs.declared.Choice.{Choice}
 use Rattle.commands.specs.declared.Command.{Command}
-use Rattle.commands.specs.declared.Command.the-variants.{Plan, Open, Choose, Offer, Take, Ended, Quit, Unknown}
+use Rattle.commands.specs.declared.Command.the-variants.{Plan, Open, Choose, Offer, Take, Mark, Ended, Quit, Unknown}
 use Rattle.answering.specs.Lines.{openingTexts}
 
 pub record Held : Type 0 where
@@ -66,13 +66,14 @@ takenIn event c = after (takeOffered memorySource (machineOf (c .state) (c .memo
 unfoldable pub endedIn : Held → Held
 endedIn c = told (closingTexts (endedOf (c .state))) c
 
--- any command; `plan` and `quit` are left to the program, and a line that is none is answered by `?`
+-- any command; `plan`, `mark` and `quit` are left to the program, and a line that is none is answered by `?`
 abbrev pub answered : List ℕ → Command → Held → Held
 answered file (Plan start) c = c
 answered file (Open workers) c = openedIn file workers c
 answered file (Choose choice) c = chosenIn choice c
 answered file (Offer choice) c = offeredIn choice c
 answered file (Take event) c = takenIn event c
+answered file (Mark journal) c = c
 answered file Ended c = endedIn c
 answered file Quit c = c
 answered file Unknown c = told ((63 ∷ 10 ∷ []) ∷ []) c

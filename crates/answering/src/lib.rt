@@ -5,8 +5,10 @@ ghost use mathlib.Core.Path.{_≡_};
 ghost use mathlib.Core.List.{List, [], _∷_};
 ghost use Prim.Native.Nat.{ℕ};
 ghost use Rattle.plan.specs.Reading.{readOf, readingOf};
+ghost use Rattle.marking.specs.Marking.{walked, markOf, leftMemory};
+ghost use Rattle.journal_file.specs.Records.{recordsIn};
 ghost use Rattle.sink.specs.Sinks.{putEach};
-ghost use Rattle.answering.specs.Lines.{readingTexts};
+ghost use Rattle.answering.specs.Lines.{readingTexts, markingTexts};
 ghost use Rattle.answering.specs.Answers.{heldOf, openedIn, chosenIn, offeredIn, takenIn, told, endedIn, answered};
 use commands::Choice;
 use commands::Command;
@@ -24,6 +26,29 @@ pub fn answer_plan(session: Session, file: &[u8], out: &mut [u8]) -> Session
     Session {
         state: state,
         sink: lines::put_reading(sink, out, plan::read(file)),
+    }
+}
+
+// `mark W PATH`, once the journal is read, in lent memory of its own: `complete`, `correct so far`, `wrong i n` or `R n`.
+pub fn answer_mark(
+    session: Session,
+    file: &[u8],
+    workers: u16,
+    journal: &[u8],
+    mem: &mut [u16],
+    out: &mut [u8],
+) -> Session
+    ensures state { λ r. ⌜ r .state ≡ session .state ⌝ }
+    ensures memory { λ _. ⌜ now (mem .exit) ≡ leftMemory (walked (now (file .entry)) workers (recordsIn (now (journal .entry))) (now (mem .entry))) ⌝ }
+    ensures output { λ r. ⌜ (r .sink, now (out .exit)) ≡ putEach (session .sink, now (out .entry))
+        (markingTexts (markOf (now (file .entry)) workers (recordsIn (now (journal .entry))) (now (mem .entry)))) ⌝ }
+{
+    let state = session.state;
+    let sink = session.sink;
+    let marking = journal_file::mark_file(file, workers, journal, mem);
+    Session {
+        state: state,
+        sink: lines::put_marking(sink, out, marking),
     }
 }
 
@@ -116,7 +141,7 @@ fn tell_end(session: Session, out: &mut [u8]) -> Session
     tell(session, b"O\n", out)
 }
 
-// Any command but `plan` and `quit`, which are left to the program: it reads the file, and ends.
+// Any command but `plan`, `mark` and `quit`, which are left to the program: it reads the file, and ends.
 pub fn answer(
     session: Session,
     command: Command,
@@ -135,6 +160,7 @@ pub fn answer(
         Command::Ended => tell_end(session, out),
         Command::Unknown => tell(session, b"?\n", out),
         Command::Plan(_) => session,
+        Command::Mark(_) => session,
         Command::Quit => session,
     }
 }

@@ -6,7 +6,7 @@ use lib.ListN.{length}
 use Rattle.rules.specs.Lists.{mustNot}
 use Rattle.commands.specs.Commands.{commandOf}
 use Rattle.commands.specs.declared.Command.{Command}
-use Rattle.commands.specs.declared.Command.the-variants.{Plan, Open, Choose, Offer, Take, Ended, Quit, Unknown}
+use Rattle.commands.specs.declared.Command.the-variants.{Plan, Open, Choose, Offer, Take, Mark, Ended, Quit, Unknown}
 use Rattle.answering.specs.Answers.{Held, answered}
 
 -- the commands that the program itself answers: it reads a file, or ends
@@ -16,6 +16,7 @@ forProgram (Open workers) = false
 forProgram (Choose choice) = false
 forProgram (Offer choice) = false
 forProgram (Take event) = false
+forProgram (Mark journal) = true
 forProgram Ended = false
 forProgram Quit = true
 forProgram Unknown = false

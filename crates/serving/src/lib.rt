@@ -16,12 +16,13 @@ pub struct Served {
     pub session: Session,
 }
 
-// Whether a command is the program's own: `plan` reads a file, `quit` ends.
+// Whether a command is the program's own: `plan` and `mark` read a file, `quit` ends.
 fn for_program(command: Command) -> bool
     ensures { λ r. ⌜ r ≡ forProgram command ⌝ }
 {
     match command {
         Command::Plan(_) => true,
+        Command::Mark(_) => true,
         Command::Quit => true,
         Command::Open(_) => false,
         Command::Choose(_) => false,

@@ -50,6 +50,9 @@ enum-told-3 c = search needs
 enum-told-4 : tie.Need-enum-told-4
 enum-told-4 c = search needs
 
+enum-told-5 : tie.Need-enum-told-5
+enum-told-5 c = search needs
+
 same-length : tie.Need-same-length
 same-length c = search needs
 
@@ -116,6 +119,9 @@ returns-7 c = laws.answers _ _ (c .enum-told3 .given .1) refl
 returns-8 : tie.Need-returns-8
 returns-8 c = laws.answers _ _ (c .enum-told4 .given .1) refl
 
+returns-9 : tie.Need-returns-9
+returns-9 c = laws.answers _ _ (c .enum-told5 .given .1) refl
+
 pub answer-spec : {M : Type 1} → statement M
 answer-spec =
     tie.close
@@ -135,6 +141,7 @@ answer-spec =
     tell-requires
     enum-told-3
     enum-told-4
+    enum-told-5
     same-length
     same-length-2
     returns
@@ -152,4 +159,5 @@ answer-spec =
     same-length-10
     returns-6
     returns-7
-    returns-8)
+    returns-8
+    returns-9)
