@@ -1,10 +1,11 @@
 -- The console, case by case: how it begins, and what it makes of a line that is too long.
-use mathlib.Core.Path.{_≡_, refl, ap}
+use mathlib.Core.Path.{_≡_, refl, sym, ap}
 use mathlib.Core.List.{List, [], _∷_}
 use Prim.Native.Nat.{ℕ, _-_, _<_, _≤_}
 use native.Mathlib.Omega.{arith}
 use borrow.Author.Tests.{lt-ltb, le-ltb}
 use lib.Dec.{ltb}
+use lib.ListN.{length, replicate, length-replicate}
 use Rattle.vocabulary.specs.declared.refusal.Refusal.the-variants.{FileSize}
 use Rattle.rules.proofs.lists.Tests.{by-test}
 use Rattle.plan.specs.Reading.{refused, checkOf, readOf}
@@ -30,6 +31,10 @@ module _ (m : List ℕ) where
   pub none-written : openOf [] 0 m .1 ≡ m
   unfolding loadAs
   none-written = rw none-read
+
+-- the size of an array of zeros; of any, so that none is written out
+pub zeros-size : (n : ℕ) → n ≡ length (replicate {A = ℕ} n 0)
+zeros-size n = sym (length-replicate n 0)
 
 -- at first all is within the buffers
 pub begun-kept : {files inputs : ℕ} {c : Console} → c ≡ begun → Kept files inputs c

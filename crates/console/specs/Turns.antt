@@ -3,15 +3,18 @@ use mathlib.Core.Path.{_≡_}
 use mathlib.Core.Bool.{true, false}
 use mathlib.Core.List.{List}
 use Prim.Native.Nat.{ℕ, _+_, _≤_}
-use lib.ListN.{length, take}
+use lib.ListN.{length, take, replicate}
 use Rattle.rules.specs.Lists.{has}
 use Rattle.plan.specs.Reading.{readOf, readingOf}
 use Rattle.sink.specs.Sinks.{putEach}
 use Rattle.words.specs.Words.{upTo}
 use Rattle.commands.specs.Commands.{commandOf}
+use Rattle.commands.specs.declared.JournalAt.{JournalAt}
 use Rattle.commands.specs.declared.Command.{Command}
-use Rattle.commands.specs.declared.Command.the-variants.{Plan, Quit}
-use Rattle.answering.specs.Lines.{readingTexts}
+use Rattle.commands.specs.declared.Command.the-variants.{Plan, Mark, Quit}
+use Rattle.marking.specs.Marking.{markOf}
+use Rattle.journal_file.specs.Records.{recordsIn}
+use Rattle.answering.specs.Lines.{readingTexts, markingTexts}
 use Rattle.answering.specs.Answers.{Held, heldOf}
 use Rattle.serving.specs.Lines.{linesIn}
 use Rattle.serving.specs.Serving.{forProgram, servedFrom}
@@ -58,6 +61,22 @@ pub record Planned (c : Console) (out : List ℕ) (r : Console) (file left : Lis
   pub state : r .session .state ≡ c .session .state
   pub output : (r .session .sink, left) ≡ putEach (c .session .sink, out) (readingTexts (readingOf (readOf (take (r .size) file))))
 
+-- lent numbers for the run of a journal
+unfoldable pub freshNumbers : List ℕ
+freshNumbers = replicate 32768 0
+
+-- `mark W PATH`: whatever journal the file was found to hold, of at most 131,074 records, it is marked for the kept plan in lent numbers
+-- of its own, and told by its line; nothing else changes
+pub record Marked (workers : ℕ) (c : Console) (file out : List ℕ) (r : Console) (left : List ℕ) : Type 0 where
+  pub journal : List ℕ
+  pub most : length journal ≤ 1441814
+  pub size : r .size ≡ c .size
+  pub input : r .input ≡ c .input
+  pub done : r .done ≡ c .done
+  pub state : r .session .state ≡ c .session .state
+  pub output : (r .session .sink, left) ≡
+      putEach (c .session .sink, out) (markingTexts (markOf (take (c .size) file) workers (recordsIn journal) freshNumbers))
+
 -- the console, the plan file and the output are these
 pub record Same (c : Console) (file out : List ℕ) (r : Console) (file' out' : List ℕ) : Type 0 where
   pub console : r ≡ c
@@ -67,6 +86,8 @@ pub record Same (c : Console) (file out : List ℕ) (r : Console) (file' out' : 
 -- what a line that was left to the program makes of them
 pub data Obeyed (command : Command) (c : Console) (file out : List ℕ) (r : Console) (file' out' : List ℕ) : Type 0 where
   own-plan : {start : ℕ} → command ≡ Plan start → Planned c out r file' out' → Obeyed command c file out r file' out'
+  own-mark : {journal : JournalAt} → command ≡ Mark journal → Marked (journal .workers) c file out r out' → file' ≡ file →
+      Obeyed command c file out r file' out'
   own-quit : command ≡ Quit → Same (finished c) file out r file' out' → Obeyed command c file out r file' out'
   not-own : forProgram command ≡ false → Same c file out r file' out' → Obeyed command c file out r file' out'
 

@@ -9,7 +9,7 @@ ghost use lib.ListN.{length, take, drop};
 ghost use Rattle.commands.specs.Commands.{commandOf};
 ghost use Rattle.console.specs.Inputs.{Within};
 ghost use Rattle.console.specs.Consoles.{Kept, begun, finished, consoleFrom, refusedLong};
-ghost use Rattle.console.specs.Turns.{Answered, Planned, Obeyed, Waited, Turned, Turns, whole};
+ghost use Rattle.console.specs.Turns.{Answered, Planned, Marked, Obeyed, freshNumbers, Waited, Turned, Turns, whole};
 use commands::Command;
 use commands::MOST_OF_LINE;
 use input::Input;
@@ -41,6 +41,54 @@ fn take_plan(was: Console, path: &[u8], file: &mut [u8], out: &mut [u8]) -> Cons
     }
 }
 
+// Lent numbers for the run of a journal.
+fn fresh_numbers() -> [u16; 32768]
+    ensures size { λ r. ⌜ 32768 ≡ length r ⌝ }
+    ensures zeros { λ r. ⌜ r ≡ freshNumbers ⌝ }
+{
+    [0; 32768]
+}
+
+// A buffer for a journal: it takes one record more than a run can have.
+fn journal_buffer() -> [u8; 1441814]
+    ensures { λ r. ⌜ 1441814 ≡ length r ⌝ }
+{
+    [0; 1441814]
+}
+
+// `mark W PATH`: the journal is marked in lent numbers of its own.
+fn take_journal(
+    was: Console,
+    workers: u16,
+    path: &[u8],
+    file: &[u8],
+    out: &mut [u8],
+) -> Console
+    requires { ⌜ was .size ≤ length (now file) ⌝ }
+    ensures { λ r. ⌜ Marked workers was (now (file .entry)) (now (out .entry)) r (now (out .exit)) ⌝ }
+{
+    let session = was.session;
+    let input = was.input;
+    let size = was.size;
+    let mut journal = journal_buffer();
+    let mut mem = fresh_numbers();
+    let count = files::read(path, &mut journal);
+    let told = answering::answer_mark(
+        session,
+        &file[..size],
+        workers,
+        &journal[..count],
+        &mut mem,
+        out,
+    );
+    Console {
+        session: told,
+        size: size,
+        input: input,
+        done: was.done,
+    }
+}
+
 // After `quit`, and after the last line of the input, nothing more is done.
 fn finish(was: Console) -> Console
     ensures { λ r. ⌜ r ≡ finished was ⌝ }
@@ -63,6 +111,10 @@ fn obey(was: Console, line: &[u8], file: &mut [u8], out: &mut [u8]) -> Console
 {
     match commands::parse(line) {
         Command::Plan(start) => take_plan(was, &line[start..], file, out),
+        Command::Mark(journal) => {
+            let start = journal.start;
+            take_journal(was, journal.workers, &line[start..], file, out)
+        }
         Command::Quit => finish(was),
         Command::Open(_) => was,
         Command::Choose(_) => was,

@@ -1,8 +1,8 @@
 -- `obey` lends the path, which is within the line.
 use mathlib.Core.Path.{refl, sym, ap, _∙_}
-use Rattle.commands.proofs.Paths.{plan-within}
+use Rattle.commands.proofs.Paths.{plan-within, mark-within}
 use Rattle.console.specs.declared.Console.{Console}
-use Rattle.console.specs.Turns.{own-plan, own-quit, not-own}
+use Rattle.console.specs.Turns.{own-plan, own-mark, own-quit, not-own}
 use Rattle.console.proofs.Turns as laws
 use borrow.Author.Needs.{needs}
 use Rattle.console.proofs.obey.Statement.{statement}
@@ -18,8 +18,7 @@ sub-take-plan : tie.Need-sub-take-plan
 sub-take-plan c =
     let asked = c .before .before .before in
     let line = asked .before .before .before .before .args .line .now in
-    let starts = plan-within line (sym (asked .parse .ensures) ∙ c .before .start .given .1) in
-    starts
+    plan-within line (sym (asked .parse .ensures) ∙ c .before .start .given .1)
 
 part-take-plan-start : tie.Need-part-take-plan-start
 part-take-plan-start c =
@@ -33,6 +32,28 @@ part-take-plan-end c = search needs
 
 take-plan-requires : tie.Need-take-plan-requires
 take-plan-requires c κs = search needs
+
+enum-known-journal : tie.Need-enum-known-journal
+enum-known-journal c = search needs
+
+sub-take-journal : tie.Need-sub-take-journal
+sub-take-journal c =
+    let asked = c .before .before .before in
+    let line = asked .before .before .before .before .args .line .now in
+    mark-within line (sym (asked .parse .ensures) ∙ c .before .journal .given .1)
+
+part-take-journal-start : tie.Need-part-take-journal-start
+part-take-journal-start c =
+    let asked = c .before .before .before in
+    let line = asked .before .before .before .before .args .line .now in
+    let starts = mark-within line (sym (asked .parse .ensures) ∙ c .before .journal .given .1) in
+    search needs
+
+part-take-journal-end : tie.Need-part-take-journal-end
+part-take-journal-end c = search needs
+
+take-journal-requires : tie.Need-take-journal-requires
+take-journal-requires c κs = search needs
 
 enum-told : tie.Need-enum-told
 enum-told c = search needs
@@ -71,21 +92,29 @@ returns c =
     let planned = at-plan .take-plan .ensures in
     ((planned .size, planned .input), own-plan (sym (known .before .before .parse .ensures) ∙ known .start .given .1) planned)
 
+same-length-3 : tie.Need-same-length-3
+same-length-3 c = search needs
+
+same-length-4 : tie.Need-same-length-4
+same-length-4 c = search needs
+
 returns-2 : tie.Need-returns-2
 returns-2 c =
+    let at-mark = c .before .before in
+    let known = at-mark .before .before .before .before .before in
+    let parsed = known .before .before in
+    let start = parsed .before .before .before .before in
+    let marked = at-mark .take-journal .ensures in
+    ((rw (marked .size) (start .pre), marked .input), own-mark (sym (parsed .parse .ensures) ∙ known .journal .given .1) marked refl)
+
+returns-3 : tie.Need-returns-3
+returns-3 c =
     let told = c .before in
     let parsed = told .before .before in
     let start = parsed .before .before .before .before in
     let finished = c .finish .ensures in (
       (rw finished (start .pre), ap (λ (x : Console). x .input) finished),
       own-quit (sym (parsed .parse .ensures) ∙ told .enum-told .given .1) (record { console = finished; plan = refl; output = refl }),
-    )
-
-returns-3 : tie.Need-returns-3
-returns-3 c =
-    let parsed = c .before .before in (
-      (parsed .before .before .before .before .pre, refl),
-      not-own (laws.others (sym (parsed .parse .ensures)) (search needs)) (record { console = refl; plan = refl; output = refl }),
     )
 
 returns-4 : tie.Need-returns-4
@@ -113,11 +142,18 @@ returns-7 : tie.Need-returns-7
 returns-7 c =
     let parsed = c .before .before in (
       (parsed .before .before .before .before .pre, refl),
-      not-own (laws.others (sym (parsed .parse .ensures) ∙ c .enum-told6 .given .1) refl) (record { console = refl; plan = refl; output = refl }),
+      not-own (laws.others (sym (parsed .parse .ensures)) (search needs)) (record { console = refl; plan = refl; output = refl }),
     )
 
 returns-8 : tie.Need-returns-8
 returns-8 c =
+    let parsed = c .before .before in (
+      (parsed .before .before .before .before .pre, refl),
+      not-own (laws.others (sym (parsed .parse .ensures) ∙ c .enum-told6 .given .1) refl) (record { console = refl; plan = refl; output = refl }),
+    )
+
+returns-9 : tie.Need-returns-9
+returns-9 c =
     let parsed = c .before .before in (
       (parsed .before .before .before .before .pre, refl),
       not-own (laws.others (sym (parsed .parse .ensures) ∙ c .enum-told7 .given .1) refl) (record { console = refl; plan = refl; output = refl }),
@@ -133,6 +169,11 @@ obey-spec =
     part-take-plan-start
     part-take-plan-end
     take-plan-requires
+    enum-known-journal
+    sub-take-journal
+    part-take-journal-start
+    part-take-journal-end
+    take-journal-requires
     enum-told
     finish-requires
     enum-told-2
@@ -144,10 +185,13 @@ obey-spec =
     same-length
     same-length-2
     returns
+    same-length-3
+    same-length-4
     returns-2
     returns-3
     returns-4
     returns-5
     returns-6
     returns-7
-    returns-8)
+    returns-8
+    returns-9)
