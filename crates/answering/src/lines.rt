@@ -49,7 +49,8 @@ pub(crate) fn put_opening(sink: Sink, out: &mut [u8], answer: Opening) -> Sink
 fn put_wrong(sink: Sink, out: &mut [u8], i: usize, why: Refusal) -> Sink
     ensures { λ r. ⌜ (r, now (out .exit)) ≡ putEach (sink, now (out .entry)) (wrongTexts i (numberOf why)) ⌝ }
 {
-    let numbers = [i as u64, why.number() as u64];
+    let number = why.number() as u64;
+    let numbers = [i as u64, number];
     printing::put_line(sink, out, b"wrong", &numbers)
 }
 

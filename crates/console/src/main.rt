@@ -57,13 +57,7 @@ fn journal_buffer() -> [u8; 1441814]
 }
 
 // `mark W PATH`: the journal is marked in lent numbers of its own.
-fn take_journal(
-    was: Console,
-    workers: u16,
-    path: &[u8],
-    file: &[u8],
-    out: &mut [u8],
-) -> Console
+fn take_journal(was: Console, workers: u16, path: &[u8], file: &[u8], out: &mut [u8]) -> Console
     requires { ⌜ was .size ≤ length (now file) ⌝ }
     ensures { λ r. ⌜ Marked workers was (now (file .entry)) (now (out .entry)) r (now (out .exit)) ⌝ }
 {

@@ -7,8 +7,8 @@ use Rattle.answering.proofs.lines.put_wrong.Tie as tie
 number-requires : tie.Need-number-requires
 number-requires c κs = search needs
 
-cast-t9 : tie.Need-cast-t9
-cast-t9 c = search needs
+cast-number : tie.Need-cast-number
+cast-number c = search needs
 
 slice-aggregate-put-line : tie.Need-slice-aggregate-put-line
 slice-aggregate-put-line c = search needs
@@ -32,7 +32,7 @@ put-wrong-spec =
     tie.close
     (tie.spec
     number-requires
-    cast-t9
+    cast-number
     slice-aggregate-put-line
     slice-aggregate-put-line-2
     put-line-requires
