@@ -1,2 +1,4 @@
--- A journal's records, one by one.
+-- A journal's records, one by one;
 pub mod Steps
+-- and some, computed.
+pub mod Examples
