@@ -1,4 +1,10 @@
-// Marks journals.
+// Marks journals that are arrays of event records, and prints what marking says of each. What it must print is written by hand, from
+// documents 01 and 02.
+mod lent;
+mod report;
+mod run;
+mod tries;
+
 use marking::Marking;
 use vocabulary::EventRecord;
 ghost use mathlib.Core.Path.{_≡_};
@@ -14,4 +20,13 @@ fn mark_records(file: &[u8], workers: u16, records: [EventRecord; 13], mem: &mut
 }
 
 fn main() {
+    tries::workers();
+    tries::plans();
+    tries::fields();
+    tries::lines();
+    tries::names();
+    tries::stops();
+    tries::exchanges();
+    tries::copies();
+    tries::memories();
 }

@@ -1,0 +1,46 @@
+-- `kept` is safe and ends.
+use Prim.Native.Nat.{_≤_, _-_}
+use borrow.Author.Needs.{needs}
+use Rattle.journals.proofs.lent.kept.Statement.{statement}
+use Rattle.journals.proofs.lent.kept.Tie as tie
+
+abbrev Inv-loop : tie.InvT-loop
+Inv-loop from mem same₀ i₀ same i = from ≤ i
+
+abbrev μ-loop : tie.MeasureT-loop
+μ-loop from mem same₀ i₀ same i = 32770 - i
+
+loop-holds : tie.Need-loop-holds Inv-loop μ-loop
+loop-holds c = search needs
+
+mul-same : tie.Need-mul-same Inv-loop μ-loop
+mul-same c = search needs
+
+array-read-same : tie.Need-array-read-same Inv-loop μ-loop
+array-read-same c = search needs
+
+add-i : tie.Need-add-i Inv-loop μ-loop
+add-i c = search needs
+
+loop-less : tie.Need-loop-less Inv-loop μ-loop
+loop-less c = search needs
+
+loop-again : tie.Need-loop-again Inv-loop μ-loop
+loop-again c = search needs
+
+returns : tie.Need-returns Inv-loop μ-loop
+returns c = search needs
+
+pub kept-spec : {M : Type 1} → statement M
+kept-spec =
+    tie.close
+    (tie.spec
+    Inv-loop
+    μ-loop
+    loop-holds
+    mul-same
+    array-read-same
+    add-i
+    loop-less
+    loop-again
+    returns)
