@@ -1,6 +1,7 @@
 // Journals marked in lent memory, of which there may be too little or more than enough.
 ghost use Prim.Native.Nat.{_≤_};
 ghost use lib.ListN.{length};
+use crate::choices;
 use crate::report;
 use crate::run;
 use marking::Marking;
@@ -11,12 +12,12 @@ fn memory() -> [u16; 32770] {
     [7u16; 32770]
 }
 
-// Whether every number from this index on is as it was.
-fn kept(mem: [u16; 32770], from: usize) -> bool {
+// Whether two memories agree from this index on.
+fn same(a: [u16; 32770], b: [u16; 32770], from: usize) -> bool {
     let mut same = true;
     let mut i = from;
     while i < 32770 {
-        same = same & (mem[i] == 7);
+        same = same & (a[i] == b[i]);
         i += 1;
     }
     same
@@ -55,6 +56,19 @@ pub fn in_memory(name: &[u8], count: usize, from: usize)
     let plan = run::plan(3);
     let mut mem = memory();
     report::say(name, mark_lent(&plan, 2, run::run(), &mut mem, count));
-    report::say_kept(kept(mem, from));
+    report::say_memory(b"as before", same(mem, memory(), from));
+    report::end();
+}
+
+// What is said of a journal over the run's plan, and of the memory beside that which the run's first so many choices leave.
+pub fn beside_choices(name: &[u8], records: [EventRecord; 13], count: usize)
+    requires { ⌜ count ≤ 13 ⌝ }
+{
+    let plan = run::plan(3);
+    let mut mem = memory();
+    report::say(name, crate::mark_records(&plan, 2, records, &mut mem));
+    let mut other = memory();
+    choices::make(&plan, run::run(), &mut other, count);
+    report::say_memory(b"as the choices leave it", same(mem, other, 0));
     report::end();
 }

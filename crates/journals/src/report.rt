@@ -31,12 +31,13 @@ pub fn say(name: &[u8], marking: Marking) {
     say_marking(marking);
 }
 
-// Whether the numbers of the memory that are to be as before are so.
-pub fn say_kept(kept: bool) {
-    if kept {
-        io::write_all(STDOUT_FILENO, b", as before");
+// How the memory is, if it is as it must be.
+pub fn say_memory(words: &[u8], right: bool) {
+    if right {
+        io::write_all(STDOUT_FILENO, b", ");
+        io::write_all(STDOUT_FILENO, words);
     } else {
-        io::write_all(STDOUT_FILENO, b", changed");
+        io::write_all(STDOUT_FILENO, b", with other memory");
     }
 }
 

@@ -106,8 +106,12 @@ pub fn copies() {
     repeated(b"11 again", 11);
 }
 
-// Too little memory, and more than enough.
+// Too little memory, more than enough, and what becomes of it.
 pub fn memories() {
     lent::in_memory(b"32,767 numbers", 32767, 0);
     lent::in_memory(b"32,770 numbers", 32770, 32768);
+    lent::beside_choices(b"13 events", run::run(), 13);
+    lent::beside_choices(b"12 events", run::repeated(7), 12);
+    lent::beside_choices(b"9 events", run::exchanged(9), 9);
+    lent::beside_choices(b"no event", run::exchanged(0), 0);
 }

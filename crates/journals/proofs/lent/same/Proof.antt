@@ -1,14 +1,14 @@
--- `kept` is safe and ends.
+-- `same` is safe and ends.
 use Prim.Native.Nat.{_≤_, _-_}
 use borrow.Author.Needs.{needs}
-use Rattle.journals.proofs.lent.kept.Statement.{statement}
-use Rattle.journals.proofs.lent.kept.Tie as tie
+use Rattle.journals.proofs.lent.same.Statement.{statement}
+use Rattle.journals.proofs.lent.same.Tie as tie
 
 abbrev Inv-loop : tie.InvT-loop
-Inv-loop from mem same₀ i₀ same i = from ≤ i
+Inv-loop from a b same₀ i₀ same i = from ≤ i
 
 abbrev μ-loop : tie.MeasureT-loop
-μ-loop from mem same₀ i₀ same i = 32770 - i
+μ-loop from a b same₀ i₀ same i = 32770 - i
 
 loop-holds : tie.Need-loop-holds Inv-loop μ-loop
 loop-holds c = search needs
@@ -18,6 +18,12 @@ mul-same c = search needs
 
 array-read-same : tie.Need-array-read-same Inv-loop μ-loop
 array-read-same c = search needs
+
+mul-same-2 : tie.Need-mul-same-2 Inv-loop μ-loop
+mul-same-2 c = search needs
+
+array-read-same-2 : tie.Need-array-read-same-2 Inv-loop μ-loop
+array-read-same-2 c = search needs
 
 add-i : tie.Need-add-i Inv-loop μ-loop
 add-i c = search needs
@@ -31,8 +37,8 @@ loop-again c = search needs
 returns : tie.Need-returns Inv-loop μ-loop
 returns c = search needs
 
-pub kept-spec : {M : Type 1} → statement M
-kept-spec =
+pub same-spec : {M : Type 1} → statement M
+same-spec =
     tie.close
     (tie.spec
     Inv-loop
@@ -40,6 +46,8 @@ kept-spec =
     loop-holds
     mul-same
     array-read-same
+    mul-same-2
+    array-read-same-2
     add-i
     loop-less
     loop-again
