@@ -21,11 +21,11 @@ fn mark_records(file: &[u8], workers: u16, records: [EventRecord; 13], mem: &mut
 }
 
 fn main() {
-    tries::workers();
+    tries::halls();
     tries::plans();
     tries::fields();
     tries::lines();
-    tries::names();
+    tries::workers();
     tries::stops();
     tries::exchanges();
     tries::copies();

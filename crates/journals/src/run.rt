@@ -26,36 +26,9 @@ pub fn stopped(line: u16, worker: u16) -> EventRecord {
 
 // Its plan, examples/backwards.plan, with this many tokens in place of 3.
 pub fn plan(tokens: u8) -> [u8; 28] {
-    [
-        0,
-        0,
-        2,
-        0,
-        1,
-        0,
-        2,
-        0,
-        1,
-        0,
-        1,
-        0,
-        2,
-        0,
-        b'S',
-        b'S',
-        14,
-        0,
-        2,
-        0,
-        2,
-        0,
-        tokens,
-        0,
-        2,
-        0,
-        1,
-        0,
-    ]
+    let mut file = *b"\0\0\x02\0\x01\0\x02\0\x01\0\x01\0\x02\0SS\x0e\0\x02\0\x02\0\0\0\x02\0\x01\0";
+    file[22] = tokens;
+    file
 }
 
 pub fn run() -> [EventRecord; 13] {

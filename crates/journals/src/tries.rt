@@ -21,7 +21,7 @@ fn repeated(name: &[u8], i: usize) {
 }
 
 // Halls of several sizes.
-pub fn workers() {
+pub fn halls() {
     lent::of(b"W = 2", 3, 2, run::run());
     lent::of(b"W = 32", 3, 32, run::run());
     lent::of(b"W = 1", 3, 1, run::run());
@@ -29,7 +29,8 @@ pub fn workers() {
     lent::of(b"W = 33", 3, 33, run::run());
 }
 
-// Other plans, and files that are none. With a fourth token no line stops yet; with two, which wait for token 2, the first choice ends the run.
+// Other plans, and files that are none. With a fourth token no line stops yet; with two, both waiting for token 2, the first choice
+// ends the run.
 pub fn plans() {
     lent::of(b"4 tokens", 4, 2, run::run());
     lent::of(b"4 tokens, 13 right events", 4, 2, run::longer());
@@ -55,6 +56,7 @@ pub fn fields() {
     changed(b"last event", 12, finished(0, 1, 1, 2, 0));
 }
 
+// The line of a start or finish changed.
 pub fn lines() {
     changed(b"line that would start", 2, started(0, 0, 1, 1, 0));
     changed(b"line that waits", 0, started(1, 0, 2, 0, 0));
@@ -62,13 +64,15 @@ pub fn lines() {
     changed(b"line L, worker W", 5, finished(2, 1, 2, 0, 2));
 }
 
-pub fn names() {
+// The worker of a start or finish changed; a start by another who is idle is right, and the finish that follows it is not.
+pub fn workers() {
     changed(b"start by another", 0, started(0, 0, 2, 0, 1));
     changed(b"start by a busy worker", 3, started(0, 1, 2, 0, 0));
     changed(b"finish by another", 4, finished(1, 0, 1, 1, 1));
     changed(b"worker W", 0, started(0, 0, 2, 0, 2));
 }
 
+// A stop has 0 in pipe, token and place.
 pub fn stops() {
     changed(
         b"stop with a pipe",
@@ -88,7 +92,7 @@ pub fn stops() {
     changed(b"stop in place of a start", 11, stopped(0, 0));
 }
 
-// Neighbours exchanged.
+// Neighbours exchanged; where both orders are right, the run is complete.
 pub fn exchanges() {
     exchanged(b"0 and 1", 0);
     exchanged(b"2 and 3", 2);
