@@ -298,9 +298,9 @@ module _ {M : Type 1} (𝓤 : URA M) (H : Heap 𝓤) (A : Atoms 𝓤) (W : Given
           (E′.mir, l₁₄) ∷
           (tyBool, l₁₅) ∷ []
 
-      -- the context of a turn, and of what follows the loop: the tokens, what the parameters own, and the locals, the last first
-      abbrev Spot : ℕ → Val → List ℕ → List (Item 𝓤)
-      Spot i v zs = ‵ (flft κm qm) ∷ ‵ (flft κe qe) ∷ ‵ (flft κf qf) ∷ ‵ OwnF ∷ ‵ OwnE ∷ ‵ Shared ∷ ‵ (OwnM (length ms) zs) ∷
+      -- the locals, the last first, with these for the progress, the index, and the memory that is lent to `begin`; the parameters are as they were, and the others empty
+      abbrev Locals : Item 𝓤 → Item 𝓤 → Item 𝓤 → Item 𝓤 → List (Item 𝓤)
+      Locals p i r s =
           ‵ (froom tyBool l₁₅ 0) ∷ ‵ (fdies tyBool l₁₅) ∷
           ‵ (froom E′.mir l₁₄ 0) ∷ ‵ (fdies E′.mir l₁₄) ∷
           ‵ (froom tyPtr l₁₃ 0) ∷ ‵ (fdies tyPtr l₁₃) ∷
@@ -308,15 +308,20 @@ module _ {M : Type 1} (𝓤 : URA M) (H : Heap 𝓤) (A : Atoms 𝓤) (W : Given
           ‵ (froom (tyRef erased mut (tyInt w16)) l₁₁ 0) ∷ ‵ (fdies (tyRef erased mut (tyInt w16)) l₁₁) ∷
           ‵ (froom tyBool l₁₀ 0) ∷ ‵ (fdies tyBool l₁₀) ∷
           ‵ (froom (tyInt w64) l₉ 0) ∷ ‵ (fdies (tyInt w64) l₉) ∷
-          ‵ (froom (sliceTy (tyRef erased mut (tyInt w16))) l₈ 0) ∷ ‵ (fdies (sliceTy (tyRef erased mut (tyInt w16))) l₈) ∷
-          ‵ (froom (tyRef erased mut (tyInt w16)) l₇ 0) ∷ ‵ (fdies (tyRef erased mut (tyInt w16)) l₇) ∷
-          ‵ (fat fullShare (tyInt w64) l₆ 0 (vint w64 i)) ∷ ‵ (fdies (tyInt w64) l₆) ∷
-          ‵ (fat fullShare P′.mir l₅ 0 v) ∷ ‵ (fdies P′.mir l₅) ∷
+          s ∷ ‵ (fdies (sliceTy (tyRef erased mut (tyInt w16))) l₈) ∷
+          r ∷ ‵ (fdies (tyRef erased mut (tyInt w16)) l₇) ∷
+          i ∷ ‵ (fdies (tyInt w64) l₆) ∷
+          p ∷ ‵ (fdies P′.mir l₅) ∷
           ‵ (fat fullShare (sliceTy (tyRef (named 2) mut (tyInt w16))) l₄ 0 (mv (length ms))) ∷ ‵ (fdies (sliceTy (tyRef (named 2) mut (tyInt w16))) l₄) ∷
           ‵ (fat fullShare (sliceTy (tyRef (named 1) imm (pointee (E.the-row .written)))) l₃ 0 ev) ∷ ‵ (fdies (sliceTy (tyRef (named 1) imm (pointee (E.the-row .written)))) l₃) ∷
           ‵ (fat fullShare (tyInt w16) l₂ 0 (vint w16 w)) ∷ ‵ (fdies (tyInt w16) l₂) ∷
           ‵ (fat fullShare (sliceTy (tyRef (named 0) imm (tyInt w8))) l₁ 0 fv) ∷ ‵ (fdies (sliceTy (tyRef (named 0) imm (tyInt w8))) l₁) ∷
           ‵ (froom K′.mir l₀ 0) ∷ ‵ (fdies K′.mir l₀) ∷ []
+
+      -- the context of a turn, and of what follows the loop: the tokens, what the parameters own, and the locals, the last first
+      abbrev Spot : ℕ → Val → List ℕ → List (Item 𝓤)
+      Spot i v zs = ‵ (flft κm qm) ∷ ‵ (flft κe qe) ∷ ‵ (flft κf qf) ∷ ‵ OwnF ∷ ‵ OwnE ∷ ‵ Shared ∷ ‵ (OwnM (length ms) zs) ∷
+          Locals (‵ (fat fullShare P′.mir l₅ 0 v)) (‵ (fat fullShare (tyInt w64) l₆ 0 (vint w64 i))) (‵ (froom (tyRef erased mut (tyInt w16)) l₇ 0)) (‵ (froom (sliceTy (tyRef erased mut (tyInt w16))) l₈ 0))
 
       abbrev At : Here → List (Item 𝓤)
       At t = Spot (t .i) (t .v) (t .zs)
@@ -446,22 +451,7 @@ module _ {M : Type 1} (𝓤 : URA M) (H : Heap 𝓤) (A : Atoms 𝓤) (W : Given
       -- after the call of `begin`: the index is 0, what events owns is had twice and the fractured borrow taken of one copy, and the loop runs
       abbrev Begun : Val → List ℕ → List (Item 𝓤)
       Begun u zs = ‵ (OwnM (length ms) zs) ∷ ‵ (flft κm qm) ∷ ‵ (flft κe qe) ∷ ‵ (flft κf qf) ∷ ‵ OwnF ∷ ‵ OwnE ∷
-          ‵ (froom tyBool l₁₅ 0) ∷ ‵ (fdies tyBool l₁₅) ∷
-          ‵ (froom E′.mir l₁₄ 0) ∷ ‵ (fdies E′.mir l₁₄) ∷
-          ‵ (froom tyPtr l₁₃ 0) ∷ ‵ (fdies tyPtr l₁₃) ∷
-          ‵ (froom (sliceTy (tyRef erased mut (tyInt w16))) l₁₂ 0) ∷ ‵ (fdies (sliceTy (tyRef erased mut (tyInt w16))) l₁₂) ∷
-          ‵ (froom (tyRef erased mut (tyInt w16)) l₁₁ 0) ∷ ‵ (fdies (tyRef erased mut (tyInt w16)) l₁₁) ∷
-          ‵ (froom tyBool l₁₀ 0) ∷ ‵ (fdies tyBool l₁₀) ∷
-          ‵ (froom (tyInt w64) l₉ 0) ∷ ‵ (fdies (tyInt w64) l₉) ∷
-          ‵ (fat fullShare (sliceTy (tyRef erased mut (tyInt w16))) l₈ 0 (mv (length ms))) ∷ ‵ (fdies (sliceTy (tyRef erased mut (tyInt w16))) l₈) ∷
-          ‵ (fat fullShare (tyRef erased mut (tyInt w16)) l₇ 0 (vptr bm om)) ∷ ‵ (fdies (tyRef erased mut (tyInt w16)) l₇) ∷
-          ‵ (froom (tyInt w64) l₆ 0) ∷ ‵ (fdies (tyInt w64) l₆) ∷
-          ‵ (fat fullShare P′.mir l₅ 0 u) ∷ ‵ (fdies P′.mir l₅) ∷
-          ‵ (fat fullShare (sliceTy (tyRef (named 2) mut (tyInt w16))) l₄ 0 (mv (length ms))) ∷ ‵ (fdies (sliceTy (tyRef (named 2) mut (tyInt w16))) l₄) ∷
-          ‵ (fat fullShare (sliceTy (tyRef (named 1) imm (pointee (E.the-row .written)))) l₃ 0 ev) ∷ ‵ (fdies (sliceTy (tyRef (named 1) imm (pointee (E.the-row .written)))) l₃) ∷
-          ‵ (fat fullShare (tyInt w16) l₂ 0 (vint w16 w)) ∷ ‵ (fdies (tyInt w16) l₂) ∷
-          ‵ (fat fullShare (sliceTy (tyRef (named 0) imm (tyInt w8))) l₁ 0 fv) ∷ ‵ (fdies (sliceTy (tyRef (named 0) imm (tyInt w8))) l₁) ∷
-          ‵ (froom K′.mir l₀ 0) ∷ ‵ (fdies K′.mir l₀) ∷ []
+          Locals (‵ (fat fullShare P′.mir l₅ 0 u)) (‵ (froom (tyInt w64) l₆ 0)) (‵ (fat fullShare (tyRef erased mut (tyInt w16)) l₇ 0 (vptr bm om))) (‵ (fat fullShare (sliceTy (tyRef erased mut (tyInt w16))) l₈ 0 (mv (length ms))))
 
       enters : (p : Progress) (u : Val) (zs : List ℕ) → length zs ≡ length ms → Is P.the-row p (u ∷ []) → markedOf p zs ≡ begun (file .now) w ms →
           Sq W (Begun u zs) (runs C Λ En body.t-4 (atRet En Post))
@@ -484,22 +474,7 @@ module _ {M : Type 1} (𝓤 : URA M) (H : Heap 𝓤) (A : Atoms 𝓤) (W : Given
       -- the call of `begin`
       abbrev Opening : List (Item 𝓤)
       Opening = ‵ (flft κm qm) ∷ ‵ (flft κe qe) ∷ ‵ (flft κf qf) ∷ ‵ OwnF ∷ ‵ OwnE ∷ ‵ (OwnM (length ms) ms) ∷
-          ‵ (froom tyBool l₁₅ 0) ∷ ‵ (fdies tyBool l₁₅) ∷
-          ‵ (froom E′.mir l₁₄ 0) ∷ ‵ (fdies E′.mir l₁₄) ∷
-          ‵ (froom tyPtr l₁₃ 0) ∷ ‵ (fdies tyPtr l₁₃) ∷
-          ‵ (froom (sliceTy (tyRef erased mut (tyInt w16))) l₁₂ 0) ∷ ‵ (fdies (sliceTy (tyRef erased mut (tyInt w16))) l₁₂) ∷
-          ‵ (froom (tyRef erased mut (tyInt w16)) l₁₁ 0) ∷ ‵ (fdies (tyRef erased mut (tyInt w16)) l₁₁) ∷
-          ‵ (froom tyBool l₁₀ 0) ∷ ‵ (fdies tyBool l₁₀) ∷
-          ‵ (froom (tyInt w64) l₉ 0) ∷ ‵ (fdies (tyInt w64) l₉) ∷
-          ‵ (fat fullShare (sliceTy (tyRef erased mut (tyInt w16))) l₈ 0 (mv (length ms))) ∷ ‵ (fdies (sliceTy (tyRef erased mut (tyInt w16))) l₈) ∷
-          ‵ (fat fullShare (tyRef erased mut (tyInt w16)) l₇ 0 (vptr bm om)) ∷ ‵ (fdies (tyRef erased mut (tyInt w16)) l₇) ∷
-          ‵ (froom (tyInt w64) l₆ 0) ∷ ‵ (fdies (tyInt w64) l₆) ∷
-          ‵ (froom P′.mir l₅ 0) ∷ ‵ (fdies P′.mir l₅) ∷
-          ‵ (fat fullShare (sliceTy (tyRef (named 2) mut (tyInt w16))) l₄ 0 (mv (length ms))) ∷ ‵ (fdies (sliceTy (tyRef (named 2) mut (tyInt w16))) l₄) ∷
-          ‵ (fat fullShare (sliceTy (tyRef (named 1) imm (pointee (E.the-row .written)))) l₃ 0 ev) ∷ ‵ (fdies (sliceTy (tyRef (named 1) imm (pointee (E.the-row .written)))) l₃) ∷
-          ‵ (fat fullShare (tyInt w16) l₂ 0 (vint w16 w)) ∷ ‵ (fdies (tyInt w16) l₂) ∷
-          ‵ (fat fullShare (sliceTy (tyRef (named 0) imm (tyInt w8))) l₁ 0 fv) ∷ ‵ (fdies (sliceTy (tyRef (named 0) imm (tyInt w8))) l₁) ∷
-          ‵ (froom K′.mir l₀ 0) ∷ ‵ (fdies K′.mir l₀) ∷ []
+          Locals (‵ (froom P′.mir l₅ 0)) (‵ (froom (tyInt w64) l₆ 0)) (‵ (fat fullShare (tyRef erased mut (tyInt w16)) l₇ 0 (vptr bm om))) (‵ (fat fullShare (sliceTy (tyRef erased mut (tyInt w16))) l₈ 0 (mv (length ms))))
 
       opens : Sq W Opening (runs C Λ En body.t-3 (atRet En Post))
       opens =
