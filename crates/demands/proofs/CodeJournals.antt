@@ -22,7 +22,7 @@ use Rattle.rules.proofs.runs.AcceptedOnly.{events-kept}
 use Rattle.rules.proofs.runs.MoreWorkers.{more-workers as rules-more}
 use Rattle.rules.proofs.runs.Journals.{journal-order, journal-length, more-stuck, journal-marked}
 use Rattle.fields.specs.Bytes.{Bytes}
-use Rattle.plan.specs.Plan.{Plan}
+use Rattle.plan.specs.Plan.{Plan, Valid, encode}
 use Rattle.plan.specs.Reading.{readOf}
 use Rattle.plan.proofs.Theorem.{one-plan}
 use Rattle.tables.specs.State as tables
@@ -125,6 +125,9 @@ module _ (file : List ℕ) (bytes : Bytes file) (workers : ℕ) (events : List E
     memory-is : m′ ≡ w .machine .source .1
     memory-is = called .1 ∙ ap leftMemory walked-is
 
+    memory-by : (cs : List Choice) → left (here .plan) m workers cs ≡ w .machine → m′ ≡ left (here .plan) m workers cs .source .1
+    memory-by cs e = memory-is ∙ sym (ap (λ (a : Machine tables.State). a .source .1) e)
+
     abbrev Ended : Bool → Type 0
     Ended b = (cs : List Choice) × (journalOf (told (here .plan) m workers cs) ≡ events) × (ended (left (here .plan) m workers cs) ≡ b)
 
@@ -156,11 +159,11 @@ module _ (file : List ℕ) (bytes : Bytes file) (workers : ℕ) (events : List E
     -- some choices leave what marking left, whatever it says
     left-by : (cs : List Choice) × (m′ ≡ left (here .plan) m workers cs .source .1)
     left-by = elim (kinds r) [
-      | passed ok ↦ let (cs, g) = given-here ok in (cs, memory-is ∙ sym (ap (λ (a : Machine tables.State). a .source .1) (rules .left cs g)))
+      | passed ok ↦ let (cs, g) = given-here ok in (cs, memory-by cs (rules .left cs g))
       | wrong i why e ↦
           let first = rules .wrong i (numberOf why) (sym told-is ∙ ap verdictOf e) in
           let (cs, g) = first .earlier i (omega arith) in
-          (cs, memory-is ∙ sym (ap (λ (a : Machine tables.State). a .source .1) (first .leaves cs g)))
+          (cs, memory-by cs (first .leaves cs g))
       | unopened why e ↦ absurd (rules .opened (numberOf why) (sym told-is ∙ ap verdictOf e))
     ]
 
@@ -174,7 +177,7 @@ module _ (file : List ℕ) (bytes : Bytes file) (workers : ℕ) (events : List E
       passes = (given-here, passes-here);
       complete = (is-complete, to-complete);
       so-far = (is-so-far, to-so-far);
-      memory = λ cs gives. memory-is ∙ sym (ap (λ (a : Machine tables.State). a .source .1) (rules .left cs gives));
+      memory = λ cs gives. memory-by cs (rules .left cs gives);
       wrong = λ i why e. (w .machine, rules .wrong i (numberOf why) (sym told-is ∙ ap verdictOf e), memory-is);
       opened = λ why e. rules .opened (numberOf why) (sym told-is ∙ ap verdictOf e);
       length-kept = let (cs, e) = left-by in ap length e ∙ shows cs .length-kept;
@@ -199,6 +202,10 @@ module _ (file : List ℕ) (bytes : Bytes file) (workers : ℕ) (events : List E
   pub code-marks : CodeMarks file workers events m r m′
   code-marks = record { refused = when-refused; accepted = when-accepted }
 
+-- an opened file's plan, by whatever name
+demands-of : {file : List ℕ} {workers : ℕ} {m : List ℕ} → OpenedRun file workers m → (p : Plan) → Valid p → file ≡ encode p → Demands p
+demands-of a p valid file-is = subst Demands (one-plan (a .plan) p (a .valid) valid (sym (a .file-is) ∙ file-is)) (a .demands)
+
 -- the journal of a session
 module _ {file : List ℕ} (bytes : Bytes file) {workers : ℕ} {lent : List ℕ} {cs : List Choice} (s : Session file workers lent cs)
     (m : List ℕ) (enough : 32768 ≤ length m) (r : Marking) (m′ : List ℕ) (called : MarkCall file workers (journalOf (eventsOf s)) m r m′) where
@@ -215,7 +222,7 @@ module _ {file : List ℕ} (bytes : Bytes file) {workers : ℕ} {lent : List ℕ
   run = run-of bytes s p (marked .valid) (marked .file-is)
 
   demanded : Demands p
-  demanded = let a = opened-here bytes s in subst Demands (one-plan (a .plan) p (a .valid) (marked .valid) (sym (a .file-is) ∙ marked .file-is)) (a .demands)
+  demanded = demands-of (opened-here bytes s) p (marked .valid) (marked .file-is)
 
   shown : (n : List ℕ) → 32768 ≤ length n → Shows p workers n cs (told p n workers cs) (left p n workers cs) (ended (left p n workers cs))
   shown n long = demanded .runs n long workers (marked .manned) cs
@@ -262,11 +269,8 @@ module _ (file : List ℕ) (bytes : Bytes file) (events : List EventRecord) {w v
   same-plan : second .plan ≡ first .plan
   same-plan = one-plan (second .plan) (first .plan) (second .valid) (first .valid) (sym (second .file-is) ∙ first .file-is)
 
-  run-first : OpenedRun file w m
-  run-first = opened-run file bytes w m accepts-first
-
   demanded-first : Demands (first .plan)
-  demanded-first = subst Demands (one-plan (run-first .plan) (first .plan) (run-first .valid) (first .valid) (sym (run-first .file-is) ∙ first .file-is)) (run-first .demands)
+  demanded-first = demands-of (opened-run file bytes w m accepts-first) (first .plan) (first .valid) (first .file-is)
 
   -- the accepted of its choices give it with more workers too
   given-more : Passes r → (ds : List Choice) × (journalOf (told (second .plan) k v ds) ≡ events)

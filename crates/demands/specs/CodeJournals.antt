@@ -1,5 +1,5 @@
--- Marking a written journal (02, 2.6), of the code: what a caller of `mark` sees.
--- Of the call nothing is known here but what its `ensures` says, in the same words.
+-- Marking a written journal (02, 2.6), of the code: what a caller of `mark` and of `mark_file` sees.
+-- Of a call nothing is known here but what its `ensures` says, in the same words.
 use mathlib.Core.Path.{_≡_}
 use mathlib.Core.Logic.{_↔_, _⊎_}
 use mathlib.Core.Bool.{true, false}
@@ -22,12 +22,17 @@ use Rattle.opening.specs.declared.Opening.{Opening}
 use Rattle.opening.specs.Opened.{openedMachine, openOf}
 use Rattle.marking.specs.declared.Marking.{Marking}
 use Rattle.marking.specs.Marking.{verdictOf, walked, markOf, leftMemory}
+use Rattle.journal_file.specs.Records.{recordsIn}
 use Rattle.demands.specs.Demands.{order, told, left}
 use Rattle.demands.specs.CodeRuns.{Session}
 
 -- a call of `mark` with this file, W, records and memory returned `r` and left the memory `m′`: what `mark` ensures
 abbrev pub MarkCall : List ℕ → ℕ → List EventRecord → List ℕ → Marking → List ℕ → Type 0
 MarkCall file workers events m r m′ = (verdictOf r ≡ markOf file workers events m) × (m′ ≡ leftMemory (walked file workers events m))
+
+-- the same of `mark_file`, with the records in these bytes: what it ensures, so that all that is said of calls of `mark` holds of its calls
+abbrev pub MarkFileCall : List ℕ → ℕ → List ℕ → List ℕ → Marking → List ℕ → Type 0
+MarkFileCall file workers journal m r m′ = MarkCall file workers (recordsIn journal) m r m′
 
 -- a journal that passes is complete or correct so far
 abbrev pub Passes : Marking → Type 0

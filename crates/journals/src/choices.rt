@@ -10,14 +10,23 @@ fn choose(state: State, mem: &mut [u16], e: EventRecord) -> State {
     chosen.state
 }
 
-// The first so many of them, from opening with two workers, in lent memory.
-pub fn make(file: &[u8], records: [EventRecord; 13], mem: &mut [u16], count: usize)
-    requires { ⌜ count ≤ 13 ⌝ }
+// So many, or all 13.
+fn at_most_all(count: usize) -> usize
+    ensures { λ r. ⌜ r ≤ 13 ⌝ }
 {
+    if 13 < count {
+        return 13;
+    }
+    count
+}
+
+// The first so many of them, from opening with two workers, in lent memory.
+pub fn make(file: &[u8], records: [EventRecord; 13], mem: &mut [u16], count: usize) {
     let opened = opening::open(file, 2, mem);
     let mut state = opened.state;
+    let end = at_most_all(count);
     let mut i: usize = 0;
-    while i < count {
+    while i < end {
         state = choose(state, mem, records[i]);
         i += 1;
     }

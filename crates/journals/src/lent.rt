@@ -1,6 +1,4 @@
 // Journals marked in lent memory, of which there may be too little or more than enough.
-ghost use Prim.Native.Nat.{_≤_};
-ghost use lib.ListN.{length};
 use crate::choices;
 use crate::report;
 use crate::run;
@@ -23,16 +21,17 @@ fn same(a: [u16; 32770], b: [u16; 32770], from: usize) -> bool {
     same
 }
 
-// A journal marked with the first so many numbers lent.
+// A journal marked with the first so many numbers lent, or all where there are no more.
 fn mark_lent(
     file: &[u8],
     workers: u16,
     records: [EventRecord; 13],
     mem: &mut [u16],
     count: usize,
-) -> Marking
-    requires { ⌜ count ≤ length (now mem) ⌝ }
-{
+) -> Marking {
+    if mem.len() < count {
+        return crate::mark_records(file, workers, records, mem);
+    }
     crate::mark_records(file, workers, records, &mut mem[..count])
 }
 
@@ -50,9 +49,7 @@ pub fn of(name: &[u8], tokens: u8, workers: u16, records: [EventRecord; 13]) {
 }
 
 // What is said of the run with so many numbers lent, and of the numbers from an index on.
-pub fn in_memory(name: &[u8], count: usize, from: usize)
-    requires { ⌜ count ≤ 32770 ⌝ }
-{
+pub fn in_memory(name: &[u8], count: usize, from: usize) {
     let plan = run::plan(3);
     let mut mem = memory();
     report::say(name, mark_lent(&plan, 2, run::run(), &mut mem, count));
@@ -61,9 +58,7 @@ pub fn in_memory(name: &[u8], count: usize, from: usize)
 }
 
 // What is said of a journal over the run's plan, and of the memory beside that which the run's first so many choices leave.
-pub fn beside_choices(name: &[u8], records: [EventRecord; 13], count: usize)
-    requires { ⌜ count ≤ 13 ⌝ }
-{
+pub fn beside_choices(name: &[u8], records: [EventRecord; 13], count: usize) {
     let plan = run::plan(3);
     let mut mem = memory();
     report::say(name, crate::mark_records(&plan, 2, records, &mut mem));

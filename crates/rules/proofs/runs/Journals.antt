@@ -5,8 +5,8 @@ use mathlib.Core.List.{List, [], _∷_, _++_}
 use Prim.Native.Nat.{ℕ, zero, suc, _+_, _<_, _≤_}
 use native.Mathlib.Omega.{arith}
 use lib.Dec.{eqb}
-use lib.ListN.{length, take, drop}
-use lib.Seq.{take-append-seam, drop-append-seam}
+use lib.ListN.{length, take, drop, take-append-drop}
+use lib.Seq.{take-append-le, take-append-seam, drop-append-seam}
 use Rattle.vocabulary.specs.declared.event.EventRecord.{EventRecord}
 use Rattle.vocabulary.specs.Events.{sameRecord}
 use Rattle.rules.specs.Lists.{if, keep}
@@ -74,10 +74,8 @@ over-unopened true e = let z : _≡_ {A = ℕ} 0 1 = cc in omega arith
 over-unopened false e = let z : _≡_ {A = ℕ} 0 1 = cc in omega arith
 
 -- a first part of a list that ends within xs is one of xs; one that reaches past xs has the element after it
-take-within : {A : Type 0} (j : ℕ) (xs ys : List A) → j ≤ length xs → (zs : List A) × (xs ≡ take j (xs ++ ys) ++ zs)
-take-within zero xs ys h = (xs, refl)
-take-within (suc j) [] ys h = absurd (omega (arith, h))
-take-within (suc j) (x ∷ xs) ys h = let (zs, e) = take-within j xs ys (omega (arith, h)) in (zs, ap (λ l. x ∷ l) e)
+take-within : {A : Type 0} (j : ℕ) (xs ys : List A) → j ≤ length xs → xs ≡ take j (xs ++ ys) ++ drop j xs
+take-within j xs ys h = sym (take-append-drop j xs) ∙ ap (λ l. l ++ drop j xs) (sym (take-append-le j xs ys h))
 
 take-beyond : {A : Type 0} (j : ℕ) (xs : List A) (y : A) (ys : List A) → length xs < j → (zs : List A) × (take j (xs ++ (y ∷ ys)) ≡ xs ++ (y ∷ zs))
 take-beyond zero xs y ys h = absurd (omega (arith, h))
@@ -292,8 +290,8 @@ module _ {X : Type 0} (S : Source X) where
           rest = rest;
           index = ap (drop (length before)) parts ∙ drop-append-seam before (r ∷ rest);
           earlier = λ j h.
-              let (zs, all) = take-within j before (r ∷ rest) h in
-              subst (λ l. Given S m (take j l)) (sym parts) (first-given (take j (before ++ (r ∷ rest))) zs (subst (Given S m) all (cs, g)));
+              subst (λ l. Given S m (take j l)) (sym parts)
+              (first-given (take j (before ++ (r ∷ rest))) (drop j before) (subst (Given S m) (take-within j before (r ∷ rest) h) (cs, g)));
           later = λ j h ks.
               let (zs, all) = take-beyond j before r rest h in
               not-both (before ++ (r ∷ zs)) (as-wrong before r zs cs g n e) (subst (Given S m) (ap (take j) parts ∙ all) ks);

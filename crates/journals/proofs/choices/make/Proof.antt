@@ -7,13 +7,16 @@ use Rattle.journals.proofs.choices.make.Statement.{statement}
 use Rattle.journals.proofs.choices.make.Tie as tie
 
 abbrev Inv-loop : tie.InvT-loop
-Inv-loop file mem₀ count records state₀ i₀ mem state i = (i ≤ count) × (length mem ≡ length mem₀)
+Inv-loop file mem₀ count records state₀ end i₀ mem state i = (i ≤ end) × (end ≤ 13) × (length mem ≡ length mem₀)
 
 abbrev μ-loop : tie.MeasureT-loop
-μ-loop file mem₀ count records state₀ i₀ mem state i = count - i
+μ-loop file mem₀ count records state₀ end i₀ mem state i = end - i
 
 open-requires : tie.Need-open-requires Inv-loop μ-loop
 open-requires c κs = search needs
+
+at-most-all-requires : tie.Need-at-most-all-requires Inv-loop μ-loop
+at-most-all-requires c κs = search needs
 
 loop-holds : tie.Need-loop-holds Inv-loop μ-loop
 loop-holds c = search needs
@@ -49,6 +52,7 @@ make-spec =
     Inv-loop
     μ-loop
     open-requires
+    at-most-all-requires
     loop-holds
     mul-choose
     array-copy-out-choose
