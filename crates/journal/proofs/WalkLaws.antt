@@ -8,15 +8,12 @@ use native.Mathlib.Numerals.{add-one}
 use lib.ListN.{length, getD, drop}
 use lib.Seq.{drop-cons, drop-length}
 use Rattle.vocabulary.specs.declared.event.EventRecord.{EventRecord}
-use Rattle.rules.specs.Journals.{goesOn, closing, markMore}
-use Rattle.rules.proofs.runs.Journals.{more-none, more-stuck, more-step}
+use Rattle.rules.specs.Journals.{goesOn, markMore}
+use Rattle.rules.proofs.runs.Journals.{more-none, more-step}
 use Rattle.tables.specs.Calls.{memorySource}
-use Rattle.state.specs.Machines.{machineOf}
-use Rattle.state.specs.Ending.{endedOf}
-use Rattle.marking.specs.declared.Marking.{Marking}
 use Rattle.marking.specs.declared.Progress.{Progress}
-use Rattle.marking.specs.Marking.{verdictOf, markedOf, begun, walked, closed, markOf, leftMemory}
-use Rattle.marking.proofs.StepLaws.{stays}
+use Rattle.marking.specs.Marking.{verdictOf, markedOf, begun, walked}
+use Rattle.marking.proofs.StepLaws.{settled-stays}
 
 module _ (file : List ℕ) (workers : ℕ) (es : List EventRecord) (m : List ℕ) where
   -- the events from an index on, after a progress and its memory, come to what all of them come to
@@ -45,10 +42,4 @@ module _ (file : List ℕ) (workers : ℕ) (es : List EventRecord) (m : List ℕ
       sym (more-none memorySource (markedOf p zs) (length es)) ∙ ap (markMore memorySource (markedOf p zs) (length es)) (sym (drop-length es)) ∙ (rw i-is at left)
 
   pub walk-settled : (i : ℕ) (p : Progress) (zs : List ℕ) {b : Bool} → b ≡ not (goesOn (verdictOf (p .marking))) → b ≡ true → LeftFrom i p zs → All p zs
-  unfolding markedOf
-  walk-settled i p zs b-is t left = sym (more-stuck memorySource (markedOf p zs) i (drop i es) (stays (verdictOf (p .marking)) b-is t)) ∙ left
-
-  pub walk-ends : (p : Progress) (zs : List ℕ) (r : Marking) → All p zs → verdictOf r ≡ closing (endedOf (p .state)) (verdictOf (p .marking)) →
-      (verdictOf r ≡ markOf file workers es m) × (zs ≡ leftMemory (walked file workers es m))
-  unfolding markedOf machineOf
-  walk-ends p zs r all e = (e ∙ ap closed all, ap leftMemory all)
+  walk-settled i p zs b-is t left = sym (settled-stays p zs i (drop i es) b-is t) ∙ left

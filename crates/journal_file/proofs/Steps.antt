@@ -1,6 +1,5 @@
 -- A journal's records, one by one.
 use mathlib.Core.Path.{_≡_, sym, ap, _∙_}
-use mathlib.Core.Bool.{Bool, true, not}
 use mathlib.Core.List.{List, [], _∷_}
 use Prim.Native.Nat.{ℕ, suc, _+_, _-_, _*_, _<_, _≤_}
 use native.Mathlib.Omega.{arith}
@@ -9,15 +8,10 @@ use lib.Seq.{getD-drop, drop-drop}
 use Rattle.vocabulary.specs.declared.event.EventRecord.{EventRecord}
 use Rattle.fields.specs.Bytes.{fieldAt, fieldIn}
 use Rattle.fields.proofs.Fields.{field-inside}
-use Rattle.rules.specs.Journals.{Verdict, Marked, goesOn, closing, markMore}
-use Rattle.rules.proofs.lists.Tests.{by-test, never}
-use Rattle.rules.proofs.runs.Journals.{more-none, more-stuck, more-step}
+use Rattle.rules.specs.Journals.{Marked, markMore}
+use Rattle.rules.proofs.runs.Journals.{more-none, more-step}
 use Rattle.tables.specs.State as tables
 use Rattle.tables.specs.Calls.{memorySource}
-use Rattle.state.specs.Machines.{machineOf}
-use Rattle.state.specs.Ending.{endedOf}
-use Rattle.marking.specs.declared.Progress.{Progress}
-use Rattle.marking.specs.Marking.{verdictOf, markedOf, closed, leftMemory}
 use Rattle.journal_file.specs.Records.{recordIn, records}
 
 -- a field of the record that starts at a place
@@ -75,16 +69,3 @@ module _ (s : List ℕ) (count i : ℕ) where
     -- none is left
     pub marks-end : count ≤ i → markMore memorySource w i (from s count i) ≡ w
     marks-end h = ap (markMore memorySource w i) (records-end h) ∙ more-none memorySource w i
-
--- those after a wrong one, or a refused opening, change nothing
-pub marks-settled : (p : Progress) (m : List ℕ) (i : ℕ) (rs : List EventRecord) {b : Bool} → b ≡ not (goesOn (verdictOf (p .marking))) → b ≡ true →
-    markMore memorySource (markedOf p m) i rs ≡ markedOf p m
-unfolding markedOf
-marks-settled p m i rs b-is t =
-    more-stuck memorySource _ i rs (by-test (goesOn (verdictOf (p .marking))) (λ g. absurd (never (sym t ∙ b-is ∙ ap not g))) (λ n. n))
-
--- what is said in the end, and the memory then
-pub closes : (p : Progress) (m : List ℕ) (w : Marked tables.State) {v : Verdict} → w ≡ markedOf p m → v ≡ closing (endedOf (p .state)) (verdictOf (p .marking)) →
-    (v ≡ closed w) × (m ≡ leftMemory w)
-unfolding markedOf machineOf
-closes p m w w-is v-is = (v-is ∙ ap closed (sym w-is), ap leftMemory (sym w-is))

@@ -7,18 +7,20 @@ use Rattle.vocabulary.specs.declared.event.EventRecord.{EventRecord}
 use Rattle.rules.specs.Choices as rules
 use Rattle.rules.specs.Answers.{answerOf}
 use Rattle.rules.specs.Offers.{takeRecord}
-use Rattle.rules.specs.Journals.{Verdict, Wrong, CorrectSoFar, Complete, goesOn, closing, unlessRefused, markMore}
+use Rattle.rules.specs.Journals.{Verdict, Marked, Wrong, CorrectSoFar, Complete, goesOn, closing, unlessRefused, markMore}
 use Rattle.rules.proofs.lists.Tests.{by-test, never}
-use Rattle.rules.proofs.runs.Journals.{mark-one}
+use Rattle.rules.proofs.runs.Journals.{more-stuck, mark-one}
+use Rattle.tables.specs.State as tables
 use Rattle.tables.specs.Calls.{memorySource}
 use Rattle.state.specs.Machines.{machineOf}
+use Rattle.state.specs.Ending.{endedOf}
 use Rattle.engine.specs.declared.Chosen.{Chosen}
 use Rattle.engine.specs.Machines.{chosenOf}
 use Rattle.opening.specs.declared.Opened.{Opened}
 use Rattle.opening.specs.Opened.{openOf}
 use Rattle.marking.specs.declared.Marking.{Marking}
 use Rattle.marking.specs.declared.Progress.{Progress}
-use Rattle.marking.specs.Marking.{verdictOf, markedOf, openedVerdict, begun}
+use Rattle.marking.specs.Marking.{verdictOf, markedOf, openedVerdict, begun, closed, leftMemory}
 
 -- the opening
 pub begins : (file : List ℕ) (workers : ℕ) (m : List ℕ) {o : Opened} {m′ : List ℕ} (k : Marking) → o ≡ openOf file workers m .0 → m′ ≡ openOf file workers m .1 →
@@ -33,7 +35,7 @@ begins file workers m k o-is m-is k-is = λ j. record {
 goes : {b : Bool} (v : Verdict) → b ≡ not (goesOn v) → b ≡ false → goesOn v ≡ true
 goes v e f = by-test (goesOn v) (λ t. t) (λ n. absurd (never (sym (e ∙ ap not n) ∙ f)))
 
-pub stays : {b : Bool} (v : Verdict) → b ≡ not (goesOn v) → b ≡ true → goesOn v ≡ false
+stays : {b : Bool} (v : Verdict) → b ≡ not (goesOn v) → b ≡ true → goesOn v ≡ false
 stays v e t = by-test (goesOn v) (λ g. absurd (never (sym t ∙ e ∙ ap not g))) (λ n. n)
 
 -- an event
@@ -62,3 +64,15 @@ module _ (over : Bool) (v : Verdict) {b : Bool} (b-is : b ≡ not (goesOn v)) wh
 
   pub close-stays : b ≡ true → v ≡ closing over v
   close-stays t = rw (stays v b-is t)
+
+-- where no event is looked at any more, those that are left change nothing
+pub settled-stays : (p : Progress) (m : List ℕ) (i : ℕ) (rs : List EventRecord) {b : Bool} → b ≡ not (goesOn (verdictOf (p .marking))) → b ≡ true →
+    markMore memorySource (markedOf p m) i rs ≡ markedOf p m
+unfolding markedOf
+settled-stays p m i rs b-is t = more-stuck memorySource (markedOf p m) i rs (stays (verdictOf (p .marking)) b-is t)
+
+-- what is said in the end, and the memory then, where all events come to this
+pub said-at-end : (p : Progress) (m : List ℕ) {w : Marked tables.State} {v : Verdict} → markedOf p m ≡ w → v ≡ closing (endedOf (p .state)) (verdictOf (p .marking)) →
+    (v ≡ closed w) × (m ≡ leftMemory w)
+unfolding markedOf machineOf
+said-at-end p m w-is v-is = (v-is ∙ ap closed w-is, ap leftMemory w-is)

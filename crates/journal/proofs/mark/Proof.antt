@@ -62,7 +62,8 @@ use Rattle.tables.specs.Calls.{memorySource}
 use Rattle.marking.specs.declared.Marking.{Marking}
 use Rattle.marking.specs.declared.Progress.{Progress}
 use Rattle.marking.specs.Marking.{verdictOf, markedOf, begun, walked, markOf, leftMemory}
-use Rattle.journal.proofs.WalkLaws.{LeftFrom, All, walk-begins, walk-turns, walk-done, walk-settled, walk-ends}
+use Rattle.marking.proofs.StepLaws.{said-at-end}
+use Rattle.journal.proofs.WalkLaws.{LeftFrom, All, walk-begins, walk-turns, walk-done, walk-settled}
 use Rattle.journal.proofs.Relending.{lends-again, comes-back}
 use Rattle.marking.proofs.Marking as K
 use Rattle.marking.proofs.Marking.Laws as K′
@@ -103,10 +104,6 @@ counts = assign (place 6 []) (op2 (add unsigned) (copy (place 6 [])) (int w64 1)
 
 abbrev asked : Body
 asked = seq (call #settled (copy (place 5 []) ∷ []) (place 15 [])) (seq (cond (copy (place 15 [])) (exit 1) skip) counts)
-
-abbrev firstOf : List Val → Val
-firstOf [] = vunit
-firstOf (v ∷ vs) = v
 
 holds-true : (b : Bool) → Holds b → b ≡ true
 holds-true true h = refl
@@ -239,7 +236,7 @@ module _ {M : Type 1} (𝓤 : URA M) (H : Heap 𝓤) (A : Atoms 𝓤) (W : Given
           land ! (from ! (stop !)) (init ! 39 refl (EL.lawful K.the-type K′.the-laws 𝓤 H A W tt .typed r _ is .0)) $
           returns ! (look ! 39 refl) $ forget ! 27 refl $ forget ! 29 refl $ forget ! 31 refl $ forget ! 33 refl $ forget ! 35 refl $ forget ! 37 refl $ forget ! 39 refl $
           move ! (39 ∷ 40 ∷ []) $ free1 ! $ move ! (37 ∷ 38 ∷ []) $ free1 ! $ move ! (35 ∷ 36 ∷ []) $ free1 ! $ move ! (33 ∷ 34 ∷ []) $ free1 ! $ move ! (31 ∷ 32 ∷ []) $ free1 ! $ move ! (29 ∷ 30 ∷ []) $ free1 ! $ move ! (27 ∷ 28 ∷ []) $ free1 ! $ move ! (25 ∷ 26 ∷ []) $ free1 ! $ move ! (23 ∷ 24 ∷ []) $ free1 ! $ move ! (21 ∷ 22 ∷ []) $ free1 ! $ move ! (19 ∷ 20 ∷ []) $ free1 ! $ move ! (17 ∷ 18 ∷ []) $ free1 ! $ move ! (15 ∷ 16 ∷ []) $ free1 ! $ move ! (13 ∷ 14 ∷ []) $ free1 ! $ move ! (11 ∷ 12 ∷ []) $ free1 ! $ move ! (9 ∷ 10 ∷ []) $ free1 ! $ free0 ! $
-          keep ! (0 ∷ 4 ∷ 3 ∷ 2 ∷ 5 ∷ 6 ∷ 8 ∷ []) $ by ! (exits r u zs long (walk-ends (file .now) w es ms p zs r all said))))))
+          keep ! (0 ∷ 4 ∷ 3 ∷ 2 ∷ 5 ∷ 6 ∷ 8 ∷ []) $ by ! (exits r u zs long (said-at-end p zs all said))))))
 
       -- the turn that finds no event left
       ends : (t : Here) → length es ≤ t .i → Sq W (At t) (runs C Λ En body.turn-1 (anyQ (Turned t)))
@@ -294,7 +291,7 @@ module _ {M : Type 1} (𝓤 : URA M) (H : Heap 𝓤) (A : Atoms 𝓤) (W : Given
               split ! $ move ! (1 ∷ []) $ use1 W (raw (fact 𝓤 (Settles 𝓤 H A W ghosts run r b))) (settled-said 𝓤 H A W ghosts run r b) $ heard ! (Settles 𝓤 H A W ghosts run r b) (λ said. split ! $ move ! (1 ∷ []) $
               peeks ! bool (Is bool) (shows 𝓤 H A bool) b (c ∷ []) (λ is.
               land ! (from ! (stop !)) (init ! 9 refl (typed-bool 𝓤 H A W ghosts run c b is)) $ drops ! $ drops ! $
-              rewrite ! 7 (λ (z : Val). ‵ (fat fullShare tyBool l₁₅ 0 z)) (ap (λ vs. firstOf vs) is) refl $
+              rewrite ! 7 (λ (z : Val). ‵ (fat fullShare tyBool l₁₅ 0 z)) (ap (λ vs. getD vs 0 vunit) is) refl $
               first-part ! $ branches ! (load ! (from ! (stop !)) (look ! 7 refl))
               (λ yes. jumps ! $ exec ! C Λ En body.t-6 (atRet En Post) $ forget ! 7 refl $
               closes (t .i) r u ys r-is long (walk-settled (file .now) w es ms (t .i + 1) r ys said (holds-true b yes) left))

@@ -7,8 +7,9 @@ use lib.ListN.{length}
 use Rattle.rules.specs.Journals.{markMore}
 use Rattle.tables.specs.Calls.{memorySource}
 use Rattle.marking.specs.Marking.{markedOf}
+use Rattle.marking.proofs.StepLaws.{settled-stays, said-at-end}
 use Rattle.journal_file.specs.Records.{recordsIn}
-use Rattle.journal_file.proofs.Steps.{from, from-first, marks-turn, marks-end, marks-settled, closes}
+use Rattle.journal_file.proofs.Steps.{from, from-first, marks-turn, marks-end}
 use Rattle.journal_file.proofs.mark_file.Statement.{statement}
 use Rattle.journal_file.proofs.mark_file.Tie as tie
 
@@ -42,8 +43,8 @@ returns c =
     let at-begin = at-loop .before .before .before in
     let start = at-begin .before .before .before .before .before in
     let now = at-loop .loop in
-    closes (now .now) (now .mem) _
-    (ap (λ w. markMore memorySource w 0 (recordsIn (start .args .journal .now))) (sym (at-begin .begin .ensures)) ∙ now .inv .3 ∙ marks-settled (now .now) (now .mem) (now .i) _ (at-settled .settled .ensures) (c .before .if1 .taken))
+    said-at-end (now .now) (now .mem)
+    (sym (ap (λ w. markMore memorySource w 0 (recordsIn (start .args .journal .now))) (sym (at-begin .begin .ensures)) ∙ now .inv .3 ∙ settled-stays (now .now) (now .mem) (now .i) _ (at-settled .settled .ensures) (c .before .if1 .taken)))
     (c .close .ensures)
 
 mul-record-at : tie.Need-mul-record-at Inv-loop μ-loop
@@ -90,8 +91,8 @@ returns-2 c =
     let at-begin = at-loop .before .before .before in
     let start = at-begin .before .before .before .before .before in
     let now = at-loop .loop in
-    closes (now .now) (now .mem) _
-    (ap (λ w. markMore memorySource w 0 (recordsIn (start .args .journal .now))) (sym (at-begin .begin .ensures)) ∙ now .inv .3 ∙ marks-end _ _ (now .i) _ (omega (arith, c .before .loop-test .left)))
+    said-at-end (now .now) (now .mem)
+    (sym (ap (λ w. markMore memorySource w 0 (recordsIn (start .args .journal .now))) (sym (at-begin .begin .ensures)) ∙ now .inv .3 ∙ marks-end _ _ (now .i) _ (omega (arith, c .before .loop-test .left))))
     (c .close2 .ensures)
 
 pub mark-file-spec : {M : Type 1} → statement M
