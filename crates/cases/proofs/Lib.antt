@@ -10,3 +10,5 @@ pub mod MoreWorkers
 pub mod Swapping
 -- and so do plan files, those that are read and one for each refusal.
 pub mod PlanFiles
+-- An example of rounding.
+pub mod TwentyCells

@@ -8,5 +8,7 @@ pub mod invariant
 pub mod choices
 -- related sources give related runs;
 pub mod sources
--- and whole runs.
+-- whole runs;
 pub mod runs
+-- and runs with rounding.
+pub mod rounding

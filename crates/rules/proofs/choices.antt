@@ -21,6 +21,10 @@ pub mod Steps
 pub mod Stands
 -- the invariant holds at opening;
 pub mod Opening
+-- one choice after a list of them;
+pub mod Joined
+-- the numbers of refusals;
+pub mod Numbers
 -- a run as a trace of its moves;
 pub mod Trace
 -- the worker that goes with a line;

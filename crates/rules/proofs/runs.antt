@@ -26,5 +26,7 @@ pub mod AcceptedOnly
 pub mod MoreWorkers
 -- two choices in either order;
 pub mod Swapping
--- and the marking of a journal.
+-- the marking of a journal;
 pub mod Journals
+-- and tokens finish a serial pipe in the sheet's order.
+pub mod Finishers

@@ -21,5 +21,8 @@ pub mod MoreWorkers
 pub mod Swapping
 -- the marking of a written journal (2.6);
 pub mod Journals
--- and what it is for one source of tokens to do as another.
+-- what it is for one source of tokens to do as another;
 pub mod RelatedSources
+-- and "The rounding paper" (02, 2.2).
+pub mod Rounding
+pub mod RoundedRuns

@@ -140,16 +140,9 @@ unfoldable pub oneWorker : Pipeline → ℕ → ℕ → List Choice
 oneWorker plan k zero = byOne (k % plan .lines) ∷ []
 oneWorker plan k (suc places) = replicate (2 * plan .pipes) (byOne (k % plan .lines)) ++ oneWorker plan (suc k) places
 
-module _ {X : Type 0} (S : Source X) (plan : Pipeline) (workers : ℕ) (x : X) (cs : List Choice) where
-  -- the answers of a run with the choices cs, and the run that it leaves
-  abbrev pub events : List Answer
-  events = answers S (opened plan workers x) cs
-
-  abbrev pub end : Machine X
-  end = follow S (opened plan workers x) cs
-
-  -- what holds of the whole list of choices, where the source writes this order and closes at z (demand 3)
-  pub record WholeRun (order : List ℕ) (z : X) : Type 0 where
+module _ {X : Type 0} (S : Source X) (plan : Pipeline) (workers : ℕ) (events : List Answer) (end : Machine X) where
+  -- what demand 3 says of a run's answers and of the machine that it left, where the source writes this order and closes at z
+  pub record Demand3 (order : List ℕ) (z : X) : Type 0 where
     -- "After any list it is a first part of the sheet, at the end all of it."
     pub order-part : (rest : List Row) × (ordered events ++ rest ≡ rows (plan .lines) 0 order)
     pub order-whole : ended end ≡ true → ordered events ≡ rows (plan .lines) 0 order
@@ -174,3 +167,15 @@ module _ {X : Type 0} (S : Source X) (plan : Pipeline) (workers : ℕ) (x : X) (
     -- "Where 01 lists lines alone, practice's workers go with them": a line's choice by that worker answers and leaves what 01 says
     -- of the line alone (2.14)
     pub line-alone : (l : ℕ) → chooseBy S end (choiceOf end l) ≡ chooseLine S end l
+
+module _ {X : Type 0} (S : Source X) (plan : Pipeline) (workers : ℕ) (x : X) (cs : List Choice) where
+  -- the answers of a run with the choices cs, and the run that it leaves
+  abbrev pub events : List Answer
+  events = answers S (opened plan workers x) cs
+
+  abbrev pub end : Machine X
+  end = follow S (opened plan workers x) cs
+
+  -- what holds of the whole list of choices
+  abbrev pub WholeRun : List ℕ → X → Type 0
+  WholeRun order z = Demand3 S plan workers events end order z

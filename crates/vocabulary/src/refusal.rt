@@ -32,6 +32,12 @@ pub enum Refusal {
     WorkerBusy,
     // 14: the state or the memory is spoiled
     Spoiled,
+    // 16: the pipe that should round is absent or parallel
+    RoundingPipe,
+    // 17: the base is not 3 or 5
+    Base,
+    // 18: cells or figures are not N in number, or a cell is too large
+    Lent,
     // 19: the line would not give the event that is handed
     OtherEvent,
     // 20: the rules' event differs from the one that is written in a journal
@@ -60,6 +66,9 @@ impl Refusal {
             Refusal::Early => 12,
             Refusal::WorkerBusy => 13,
             Refusal::Spoiled => 14,
+            Refusal::RoundingPipe => 16,
+            Refusal::Base => 17,
+            Refusal::Lent => 18,
             Refusal::OtherEvent => 19,
             Refusal::JournalDiffers => 20,
             Refusal::WrongWorker => 26,

@@ -1,13 +1,13 @@
 -- Tests of the numbers below a bound: without a way out on the way, from a number on, in two parts, and row by row.
-use mathlib.Core.Path.{_≡_, refl, sym, ap, subst, _∙_}
+use mathlib.Core.Path.{_≡_, refl, sym, ap, _∙_}
 use mathlib.Core.Bool.{Bool, true, false}
 use Prim.Native.Nat.{ℕ, zero, suc, _+_, _-_, _*_, _<_, _≤_}
 use native.Mathlib.Omega.{arith}
-use native.Mathlib.Numerals.{add-one}
 use native.Mathlib.Nat.{mul-zero, mul-suc}
 use Rattle.rules.specs.Lists.{if, every}
 use Rattle.ranges.specs.RangeParts.{everyFrom}
 use Rattle.rules.proofs.lists.Tests.{if-eta, if-same}
+pub use Rattle.rules.proofs.lists.EveryBelow.{every-next, every-all}
 
 -- of two tests, either may come first
 pub swap : (a b : Bool) → if a b false ≡ if b a false
@@ -50,14 +50,6 @@ exchange m (suc n) g =
     every-both m (λ p. g n p) (λ p. every n (λ i. g i p)) ∙ ap (λ x. if (every m (λ p. g n p)) x false) (exchange m n g)
 
 module _ (f : ℕ → Bool) where
-  -- the answer so far, after one number more
-  pub every-next : (i : ℕ) {ok now : Bool} → ok ≡ every i f → now ≡ f i → if now ok false ≡ every (i + 1) f
-  unfolding every
-  every-next i h e = rw (add-one, h, e)
-
-  pub every-all : (n i : ℕ) {ok : Bool} → i ≤ n → n ≤ i → ok ≡ every i f → ok ≡ every n f
-  every-all n i {ok} a b h = let i-is : i ≡ n = omega arith in subst (λ j. ok ≡ every j f) i-is h
-
   -- all numbers below a + b
   split : (a b : ℕ) → every (a + b) f ≡ if (every a f) (every b (λ i. f (a + i))) false
   unfolding every

@@ -6,7 +6,7 @@ use native.Mathlib.Omega.{arith}
 use native.Mathlib.Numerals.{add-one}
 use native.Mathlib.Decide.{ℕ-discrete}
 use mathlib.Core.Logic.{by-cases}
-use Rattle.rules.specs.Lists.{every}
+use Rattle.rules.specs.Lists.{if, every}
 use Rattle.rules.proofs.lists.Tests.{by-test}
 
 module _ (f : ℕ → Bool) where
@@ -29,3 +29,11 @@ module _ (f : ℕ → Bool) where
       by-cases (ℕ-discrete i n)
       (λ i-is. rw (subst (λ j. f j ≡ false) i-is e))
       (λ less. by-test (f n) (λ t. rw t (every-fails n i (omega arith) e)) (λ t. rw t))
+
+  -- without a way out on the way: the answer so far, after one number more, and after all
+  pub every-next : (i : ℕ) {ok now : Bool} → ok ≡ every i f → now ≡ f i → if now ok false ≡ every (i + 1) f
+  unfolding every
+  every-next i h e = rw (add-one, h, e)
+
+  pub every-all : (n i : ℕ) {ok : Bool} → i ≤ n → n ≤ i → ok ≡ every i f → ok ≡ every n f
+  every-all n i {ok} a b h = let i-is : i ≡ n = omega arith in subst (λ j. ok ≡ every j f) i-is h

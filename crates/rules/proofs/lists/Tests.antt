@@ -1,6 +1,6 @@
 -- A test taken by its two outcomes, each with what it says of the numbers; and chains of tests.
 use mathlib.Core.Path.{_≡_, refl, sym}
-use mathlib.Core.Bool.{Bool, true, false, not}
+use mathlib.Core.Bool.{Bool, true, false, not, _&&_}
 use Prim.Native.Nat.{ℕ, _≤_, _<_}
 use lib.Dec.{ltb, eqb}
 use borrow.Author.Tests.{ltb-true, ltb-false, eqb-true, eqb-false, le-leb, lt-leb, lt-ltb, le-ltb, eq-eqb, ne-eqb}
@@ -24,6 +24,11 @@ if-same false x = refl
 pub if-eta : (b : Bool) → if b true false ≡ b
 if-eta true = refl
 if-eta false = refl
+
+-- two tests as one, with no branch
+pub and-if : (a b : Bool) → (a && b) ≡ if a b false
+and-if true b = refl
+and-if false b = refl
 
 -- two tests are equal if each holds where the other does
 pub bool-ext : (a b : Bool) → (a ≡ true → b ≡ true) → (b ≡ true → a ≡ true) → a ≡ b

@@ -39,7 +39,7 @@ module _ {X : Type 0} {S : Source X} {plan : Pipeline} {workers : ℕ} {order : 
   place-to l h = omega (arith, inv .good .high l 0 h (ok .ranged .pipes-some) (ok .ranged .first-serial), waits-first l 0 h, over .passed)
 
   -- all the order's tokens have finished each serial pipe
-  all-passed : (p : ℕ) → p < plan .pipes → serialAt plan p ≡ true → g .passed p ≡ length order
+  pub all-passed : (p : ℕ) → p < plan .pipes → serialAt plan p ≡ true → g .passed p ≡ length order
   all-passed p h s =
       let l : ℕ = g .passed p % plan .lines in
       let i : l < plan .lines = mod-lt (g .passed p) (ok .ranged .lines-some) in

@@ -36,7 +36,7 @@ use Rattle.rules.proofs.choices.Answers.{started-accepted, all-counted,
 module _ {X : Type 0} {S : Source X} {plan : Pipeline} (ranged : PipelineInRange plan)
     {workers : ℕ} (manned : WorkersInRange workers) {x : X} {order : List ℕ} {z : X}
     (sheet : Sheet S plan x order z) where
-  allowed : Allowed plan workers order
+  pub allowed : Allowed plan workers order
   allowed = record { ranged = ranged; manned = manned; fits = sheet .fits; known = sheet .known }
 
   module _ (cs : List Choice) where
@@ -47,14 +47,14 @@ module _ {X : Type 0} {S : Source X} {plan : Pipeline} (ranged : PipelineInRange
     abbrev left-at : Machine X
     left-at = end S plan workers x cs
 
-    run : Ran S plan workers order z (opening plan x) at-opening cs
+    pub run : Ran S plan workers order z (opening plan x) at-opening cs
     run = ran allowed cs (opening plan x) at-opening (opening-inv ranged manned (sheet .writes))
 
-    left-is : left-at ≡ whole plan workers (run .end)
+    pub left-is : left-at ≡ whole plan workers (run .end)
     unfolding opened
     left-is = run .is
 
-    over : ended left-at ≡ true → Over plan order z (run .end) (run .last)
+    pub over : ended left-at ≡ true → Over plan order z (run .end) (run .last)
     over e = ended-over allowed (run .kept) (ap ended (sym left-is) ∙ e)
 
     -- (a) the order

@@ -1,0 +1,12 @@
+-- The numbers of the rounding code as the paper's. Reading order: bases;
+pub mod Bases
+-- what a cell's passing comes to;
+pub mod Passings
+-- the rounding of a run;
+pub mod Roundings
+-- its opening;
+pub mod Openings
+-- what a choice does to it;
+pub mod Settlings
+-- and the whole choice.
+pub mod Joins

@@ -1,0 +1,22 @@
+-- The rounding paper (02, 2.2). Reading order: published sums;
+pub mod Sums
+-- an opening;
+pub mod Opening
+-- one choice, by cases;
+pub mod Choice
+-- the tokens that pass;
+pub mod Passers
+-- a choice keeps to the run without rounding;
+pub mod Steps
+-- a list of choices;
+pub mod Following
+-- refused choices play no part in demand 3;
+pub mod Unrefused
+-- the theorem: all of `RoundedRun`;
+pub mod RoundedRuns
+-- with proper cells throughout it is a run without rounding;
+pub mod Plain
+-- figures handed on;
+pub mod Figures
+-- and runs with the same cells throughout.
+pub mod CarriedRuns
