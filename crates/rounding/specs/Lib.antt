@@ -4,6 +4,8 @@ pub mod Bases
 pub mod Passings
 -- the rounding of a run;
 pub mod Roundings
+-- the run with it;
+pub mod Runs
 -- its opening;
 pub mod Openings
 -- what a choice does to it;

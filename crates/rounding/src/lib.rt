@@ -3,6 +3,7 @@ mod base;
 mod lending;
 mod opening;
 mod range;
+mod run;
 mod settling;
 mod sums;
 
@@ -11,6 +12,8 @@ pub use lending::lent_fits;
 pub use opening::Opening;
 pub use opening::open;
 pub use range::in_range;
+pub use run::Run;
+pub use run::without_rounding;
 pub use settling::Settled;
 pub use settling::settle;
 pub use settling::stays;
