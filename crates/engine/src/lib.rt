@@ -133,7 +133,7 @@ fn turn_of(
 
 // A choice that is made only if it is `agreed`, and else refused with `other`; its own refusals come first. (The state is copied to be
 // written only after it was taken apart, which saves a copy.)
-fn choose_if(
+pub fn choose_if(
     s: State,
     mem: &mut [u16],
     worker: Worker,
