@@ -13,11 +13,10 @@ use Rattle.words.specs.declared.ShortNumber as short
 use Rattle.words.proofs.Walks.{up-to-is, rest-is}
 use Rattle.words.proofs.Splits.{words-one, words-some, words-cons, past-none, up-to-all, stop-in-none, none-in-empty}
 use Rattle.commands.specs.Arguments.{space, wordsIn, pairOf, pairIn, stepOf, stepIn}
-use Rattle.commands.specs.Commands.{numbered, openOf, startedOf, finishedOf, stoppedOf, eventOf, takeOf}
+use Rattle.commands.specs.Commands.{startedOf, finishedOf, stoppedOf, eventOf, takeOf}
 use Rattle.commands.specs.declared.numbers.Pair as pair
 use Rattle.commands.specs.declared.numbers.StepNumbers as step
 use Rattle.commands.specs.declared.Command.{Command}
-use Rattle.commands.specs.declared.Command.the-variants.{Open}
 
 -- what follows the first word
 pub rest-at : (text : List ℕ) (at : ℕ) → drop at text ≡ past space text → take (length text - at) (drop at text) ≡ past space text
@@ -40,14 +39,6 @@ step-none : (x y : pair.Pair) → stepOf x y short.the-variants.Missing ≡ step
 step-none (pair.the-variants.Values a) (pair.the-variants.Values b) = refl
 step-none (pair.the-variants.Values a) pair.the-variants.Missing = refl
 step-none pair.the-variants.Missing y = refl
-
--- one number
-pub open-read : (text : List ℕ) → numbered Open (shortOf text) ≡ openOf (wordsIn text)
-unfolding openOf
-open-read text =
-    by-test (has text space)
-    (λ e. words-cons space (past space text) (λ word words q. rw (words-some space text e, q, spaced text e)))
-    (λ e. rw (words-one space text e))
 
 -- two numbers
 pair-words : (text : List ℕ) → pairOf (shortOf (upTo space text)) (shortOf (past space text)) ≡ pairIn (wordsIn text)

@@ -5,11 +5,11 @@ use Prim.Native.Nat.{ℕ}
 use Rattle.rules.specs.Lists.{has, within}
 use Rattle.words.specs.Words.{upTo, past, same, wordsIn}
 use Rattle.words.specs.Numbers.{digits, valueFrom, numberOf}
-use Rattle.commands.specs.Commands.{endedWord, quitWord, planWord, openWord, chooseWord, offerWord, takeWord, markWord, aloneOf, isPath, planOf, openOf, chooseOf, offerOf, startedOf, finishedOf, stoppedOf, eventOf, takeOf, markOf, argumentsOf, commandOf}
+use Rattle.commands.specs.Commands.{figuresWord, sumWord, endedWord, quitWord, planWord, openWord, chooseWord, offerWord, takeWord, markWord, aloneOf, isPath, planOf, plainOf, roundedOf, openOf, chooseOf, offerOf, startedOf, finishedOf, stoppedOf, eventOf, takeOf, markOf, argumentsOf, commandOf}
 use Rattle.commands.specs.Arguments.{space, pairIn, stepIn}
 use Rattle.vocabulary.specs.declared.event.Event.{Event}
 use Rattle.commands.specs.declared.Command.{Command}
-use Rattle.commands.specs.declared.Command.the-variants.{Plan, Open, Choose, Offer, Take, Mark, Ended, Quit, Unknown}
+use Rattle.commands.specs.declared.Command.the-variants.{Plan, Open, OpenRounded, Choose, Offer, Take, Mark, Figures, Sum, Ended, Quit, Unknown}
 
 abbrev lines : List (List ℕ)
 lines =
@@ -23,6 +23,12 @@ lines =
     (openWord ++ space ∷ 48 ∷ 48 ∷ 51 ∷ 51 ∷ []) ∷
     (openWord ++ space ∷ 45 ∷ 51 ∷ []) ∷
     (openWord ++ space ∷ 51 ∷ space ∷ []) ∷
+    (openWord ++ space ∷ 50 ∷ space ∷ 49 ∷ space ∷ 54 ∷ 53 ∷ 53 ∷ 51 ∷ 53 ∷ space ∷ 97 ∷ space ∷ 98 ∷ []) ∷
+    (openWord ++ space ∷ 50 ∷ space ∷ 49 ∷ space ∷ 54 ∷ 53 ∷ 53 ∷ 51 ∷ 54 ∷ space ∷ 97 ∷ space ∷ 98 ∷ []) ∷
+    (openWord ++ space ∷ 50 ∷ space ∷ 49 ∷ space ∷ 53 ∷ space ∷ []) ∷
+    (openWord ++ space ∷ 50 ∷ space ∷ 49 ∷ space ∷ 53 ∷ []) ∷
+    (openWord ++ space ∷ 50 ∷ space ∷ 49 ∷ []) ∷
+    (openWord ++ space ∷ 50 ∷ space ∷ space ∷ 53 ∷ space ∷ 97 ∷ []) ∷
     (chooseWord ++ space ∷ 50 ∷ space ∷ 54 ∷ 53 ∷ 53 ∷ 51 ∷ 53 ∷ []) ∷
     (chooseWord ++ space ∷ 50 ∷ space ∷ 54 ∷ 53 ∷ 53 ∷ 51 ∷ 54 ∷ []) ∷
     (chooseWord ++ space ∷ 51 ∷ []) ∷
@@ -40,6 +46,10 @@ lines =
     (markWord ++ space ∷ 51 ∷ 50 ∷ space ∷ []) ∷
     (markWord ++ space ∷ 51 ∷ 50 ∷ []) ∷
     (markWord ++ space ∷ 97 ∷ space ∷ 97 ∷ []) ∷
+    figuresWord ∷
+    (figuresWord ++ space ∷ []) ∷
+    sumWord ∷
+    (sumWord ++ space ∷ 51 ∷ []) ∷
     (space ∷ endedWord) ∷
     [] ∷
     []
@@ -54,6 +64,12 @@ asked =
     Unknown ∷
     Open 33 ∷
     Open 33 ∷
+    Unknown ∷
+    Unknown ∷
+    OpenRounded (record { workers = 2; pipe = record { 0 = 1 }; base = 65535; start = 15 }) ∷
+    Unknown ∷
+    Unknown ∷
+    Unknown ∷
     Unknown ∷
     Unknown ∷
     Choose (record { worker = record { 0 = 2 }; line = record { 0 = 65535 } }) ∷
@@ -73,10 +89,14 @@ asked =
     Unknown ∷
     Unknown ∷
     Unknown ∷
+    Figures ∷
+    Unknown ∷
+    Sum ∷
+    Unknown ∷
     Unknown ∷
     Unknown ∷
     []
 
 pub some-lines : map commandOf lines ≡ asked
-unfolding commandOf aloneOf argumentsOf isPath planOf openOf chooseOf offerOf startedOf finishedOf stoppedOf eventOf takeOf markOf pairIn stepIn upTo past same wordsIn has within digits valueFrom numberOf
+unfolding commandOf aloneOf argumentsOf isPath planOf plainOf roundedOf openOf chooseOf offerOf startedOf finishedOf stoppedOf eventOf takeOf markOf pairIn stepIn upTo past same wordsIn has within digits valueFrom numberOf
 some-lines = refl

@@ -14,7 +14,7 @@ use Rattle.words.specs.Numbers.{shortOf}
 use Rattle.words.proofs.Walks.{past-is, has-stop}
 use Rattle.words.specs.declared.ShortNumber.{ShortNumber}
 use Rattle.words.specs.declared.ShortNumber.the-variants.{Value, Missing}
-use Rattle.commands.specs.Commands.{endedWord, quitWord, planWord, openWord, chooseWord, offerWord, takeWord, markWord, startedWord, finishedWord, stoppedWord, numbered, chosen, stepped, halted, aloneOf, isPath, planOf, openOf, chooseOf, offerOf, startedOf, finishedOf, stoppedOf, eventOf, takeOf, markOf, argumentsOf, commandOf}
+use Rattle.commands.specs.Commands.{figuresWord, sumWord, endedWord, quitWord, planWord, openWord, chooseWord, offerWord, takeWord, markWord, startedWord, finishedWord, stoppedWord, numbered, chosen, stepped, halted, aloneOf, isPath, planOf, plainOf, roundedAt, roundedOf, openOf, chooseOf, offerOf, startedOf, finishedOf, stoppedOf, eventOf, takeOf, markOf, argumentsOf, commandOf}
 use Rattle.commands.specs.Arguments.{space, wordsIn, pairIn, stepIn}
 use Rattle.commands.proofs.Arguments.{rest-at}
 use Rattle.vocabulary.specs.declared.answer.Step.{Step}
@@ -22,17 +22,21 @@ use Rattle.vocabulary.specs.declared.event.Event.{Event}
 use Rattle.commands.specs.declared.numbers.Pair as pair
 use Rattle.commands.specs.declared.numbers.StepNumbers as step
 use Rattle.commands.specs.declared.JournalAt.{JournalAt}
+use Rattle.commands.specs.declared.RoundingAt.{RoundingAt}
 use Rattle.commands.specs.declared.Command.{Command}
-use Rattle.commands.specs.declared.Command.the-variants.{Plan, Open, Choose, Offer, Take, Mark, Ended, Quit, Unknown}
+use Rattle.commands.specs.declared.Command.the-variants.{Plan, Open, OpenRounded, Choose, Offer, Take, Mark, Figures, Sum, Ended, Quit, Unknown}
 
 -- where a command's path starts, if it has one
 abbrev starts : Command → ℕ
 starts (Plan start) = start
 starts (Open n) = 0
+starts (OpenRounded r) = r .start
 starts (Choose x) = 0
 starts (Offer x) = 0
 starts (Take e) = 0
 starts (Mark j) = j .start
+starts Figures = 0
+starts Sum = 0
 starts Ended = 0
 starts Quit = 0
 starts Unknown = 0
@@ -40,12 +44,6 @@ starts Unknown = 0
 number-starts : (n : ShortNumber) → starts (numbered Open n) ≡ 0
 number-starts (Value n) = refl
 number-starts Missing = refl
-
-open-starts : (arguments : List (List ℕ)) → starts (openOf arguments) ≡ 0
-unfolding openOf
-open-starts [] = refl
-open-starts (workers ∷ []) = number-starts (shortOf workers)
-open-starts (workers ∷ word ∷ more) = refl
 
 choose-starts : (n : pair.Pair) → starts (chosen Choose n) ≡ 0
 choose-starts (pair.the-variants.Values two) = refl
@@ -78,7 +76,10 @@ take-starts (kind ∷ numbers) = event-starts kind numbers
 alone-starts : (word : List ℕ) → starts (aloneOf word) ≡ 0
 unfolding aloneOf
 alone-starts word =
-    by-test (same word endedWord) (λ e. rw e) (λ e. by-test (same word quitWord) (λ f. rw (e, f)) (λ f. rw (e, f)))
+    by-test (same word figuresWord) (λ e. rw e)
+    (λ e. by-test (same word sumWord) (λ f. rw (e, f))
+    (λ f. by-test (same word endedWord) (λ g. rw (e, f, g))
+    (λ g. by-test (same word quitWord) (λ h. rw (e, f, g, h)) (λ h. rw (e, f, g, h)))))
 
 -- a path has a byte at least
 path-some : (path : List ℕ) → isPath path ≡ true → 1 ≤ length path
@@ -122,6 +123,26 @@ unfolding planOf
 plan-starts start size path h =
     by-test (isPath path) (λ e. rw e (omega arith)) (λ e. rw e (omega arith))
 
+rounded-number : (w p b : ShortNumber) {start size : ℕ} → start ≤ size → starts (roundedAt start w p b) ≤ size
+rounded-number (Value w) (Value p) (Value b) h = h
+rounded-number (Value w) (Value p) Missing h = omega arith
+rounded-number (Value w) Missing b h = omega arith
+rounded-number Missing p b h = omega arith
+
+rounded-starts : (start size : ℕ) (text : List ℕ) → start + length text ≤ size → starts (roundedOf start text) ≤ size
+unfolding roundedOf
+rounded-starts start size text h =
+    let fromPipe : List ℕ = past space text in
+    let fromBase : List ℕ = past space fromPipe in
+    by-test (isPath (past space fromBase))
+    (λ e. rw e (rounded-number (shortOf (upTo space text)) (shortOf (upTo space fromPipe)) (shortOf (upTo space fromBase)) (omega arith)))
+    (λ e. rw e (omega arith))
+
+open-starts : (start size : ℕ) (text : List ℕ) → start + length text ≤ size → starts (openOf start text) ≤ size
+unfolding openOf plainOf
+open-starts start size text h =
+    by-test (has text space) (λ e. rw e (rounded-starts start size text h)) (λ e. rw (e, number-starts (shortOf text)) (omega arith))
+
 mark-starts : (start size : ℕ) (text : List ℕ) → start + length text ≤ size → starts (markOf start text) ≤ size
 unfolding markOf
 mark-starts start size text h =
@@ -133,7 +154,7 @@ arguments-start : (word : List ℕ) (start size : ℕ) (rest : List ℕ) → sta
 unfolding argumentsOf chooseOf offerOf
 arguments-start word start size rest h =
     by-test (same word planWord) (λ e. rw e (plan-starts start size rest h))
-    (λ e. by-test (same word openWord) (λ f. rw (e, f, open-starts (wordsIn rest)) (omega arith))
+    (λ e. by-test (same word openWord) (λ f. rw (e, f) (open-starts start size rest h))
     (λ f. by-test (same word chooseWord) (λ g. rw (e, f, g, choose-starts (pairIn (wordsIn rest))) (omega arith))
     (λ g. by-test (same word offerWord) (λ h'. rw (e, f, g, h', offer-starts (pairIn (wordsIn rest))) (omega arith))
     (λ h'. by-test (same word takeWord) (λ k. rw (e, f, g, h', k, take-starts (wordsIn rest)) (omega arith))
@@ -161,3 +182,6 @@ plan-within line e = rw e at (command-starts line)
 
 pub mark-within : (line : List ℕ) {j : JournalAt} → commandOf line ≡ Mark j → j .start ≤ length line
 mark-within line e = rw e at (command-starts line)
+
+pub rounding-within : (line : List ℕ) {r : RoundingAt} → commandOf line ≡ OpenRounded r → r .start ≤ length line
+rounding-within line e = rw e at (command-starts line)

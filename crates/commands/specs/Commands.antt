@@ -1,7 +1,7 @@
 -- The console's commands (docs/CONSOLE.md): what a line asks for. A line that is none of them asks for nothing, and is answered by `?`.
 use mathlib.Core.Bool.{Bool}
 use mathlib.Core.List.{List, [], _∷_}
-use Prim.Native.Nat.{ℕ, _+_}
+use Prim.Native.Nat.{ℕ, _+_, _-_}
 use lib.Dec.{leb}
 use lib.ListN.{length}
 use Rattle.rules.specs.Lists.{if, must, within, has}
@@ -15,10 +15,16 @@ use Rattle.commands.specs.declared.numbers.Pair as pair
 use Rattle.commands.specs.declared.numbers.StepNumbers as step
 use Rattle.commands.specs.declared.Choice.{Choice}
 use Rattle.commands.specs.declared.Command.{Command}
-use Rattle.commands.specs.declared.Command.the-variants.{Plan, Open, Choose, Offer, Take, Mark, Ended, Quit, Unknown}
+use Rattle.commands.specs.declared.Command.the-variants.{Plan, Open, OpenRounded, Choose, Offer, Take, Mark, Figures, Sum, Ended, Quit, Unknown}
 use Rattle.commands.specs.Arguments.{space, wordsIn, pairIn, stepIn}
 
--- the commands' words: `ended`, `quit`, `plan`, `open`, `choose`, `offer`, `take`, `mark`, and the kinds of events, `S`, `F`, `X`
+-- the commands' words: `figures`, `sum`, `ended`, `quit`, `plan`, `open`, `choose`, `offer`, `take`, `mark`, and the kinds of events, `S`, `F`, `X`
+abbrev pub figuresWord : List ℕ
+figuresWord = 102 ∷ 105 ∷ 103 ∷ 117 ∷ 114 ∷ 101 ∷ 115 ∷ []
+
+abbrev pub sumWord : List ℕ
+sumWord = 115 ∷ 117 ∷ 109 ∷ []
+
 abbrev pub endedWord : List ℕ
 endedWord = 101 ∷ 110 ∷ 100 ∷ 101 ∷ 100 ∷ []
 
@@ -55,9 +61,11 @@ stoppedWord = 88 ∷ []
 -- a command of one word
 unfoldable pub aloneOf : List ℕ → Command
 aloneOf word =
-    if (same word endedWord) Ended
+    if (same word figuresWord) Figures
+    (if (same word sumWord) Sum
+    (if (same word endedWord) Ended
     (if (same word quitWord) Quit
-    Unknown)
+    Unknown)))
 
 -- a command with a number of 16 bits
 abbrev pub numbered : (ℕ → Command) → ShortNumber → Command
@@ -73,10 +81,29 @@ unfoldable pub planOf : ℕ → List ℕ → Command
 planOf start path = must (isPath path) Unknown (Plan start)
 
 -- `open W`
-unfoldable pub openOf : List (List ℕ) → Command
-openOf [] = Unknown
-openOf (workers ∷ []) = numbered Open (shortOf workers)
-openOf (workers ∷ word ∷ more) = Unknown
+unfoldable pub plainOf : List ℕ → Command
+plainOf word = numbered Open (shortOf word)
+
+-- an opening with rounding, if W, PIPE and BASE are numbers; its path starts there
+abbrev pub roundedAt : ℕ → ShortNumber → ShortNumber → ShortNumber → Command
+roundedAt start (Value w) (Value p) (Value b) = OpenRounded (record { workers = w; pipe = record { 0 = p }; base = b; start = start })
+roundedAt start (Value w) (Value p) Missing = Unknown
+roundedAt start (Value w) Missing base = Unknown
+roundedAt start Missing pipe base = Unknown
+
+-- `open W PIPE BASE PATH`: the numbers are the first three words; the path is what follows their spaces, as `plan` has it, and ends with
+-- the text
+unfoldable pub roundedOf : ℕ → List ℕ → Command
+roundedOf start text =
+    let fromPipe : List ℕ = past space text in
+    let fromBase : List ℕ = past space fromPipe in
+    let path : List ℕ = past space fromBase in
+    must (isPath path) Unknown
+    (roundedAt (start + (length text - length path)) (shortOf (upTo space text)) (shortOf (upTo space fromPipe)) (shortOf (upTo space fromBase)))
+
+-- what follows `open`: with no space in it, it is W
+unfoldable pub openOf : ℕ → List ℕ → Command
+openOf start text = must (has text space) (plainOf text) (roundedOf start text)
 
 -- a command with a worker and a line
 abbrev pub chosen : (Choice → Command) → pair.Pair → Command
@@ -138,7 +165,7 @@ markOf start text =
 unfoldable pub argumentsOf : List ℕ → ℕ → List ℕ → Command
 argumentsOf word start rest =
     if (same word planWord) (planOf start rest)
-    (if (same word openWord) (openOf (wordsIn rest))
+    (if (same word openWord) (openOf start rest)
     (if (same word chooseWord) (chooseOf (wordsIn rest))
     (if (same word offerWord) (offerOf (wordsIn rest))
     (if (same word takeWord) (takeOf (wordsIn rest))

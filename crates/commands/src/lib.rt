@@ -1,15 +1,17 @@
 // The console's commands: what a line asks for.
 mod numbers;
+mod opening;
 mod taking;
 
 ghost use mathlib.Core.Path.{_≡_};
 ghost use Prim.Native.Nat.{_+_, _≤_};
 ghost use lib.ListN.{length};
 ghost use Rattle.commands.specs.Arguments.{wordsIn};
-ghost use Rattle.commands.specs.Commands.{aloneOf, isPath, planOf, openOf, chooseOf, offerOf, markOf, argumentsOf, commandOf};
+ghost use Rattle.commands.specs.Commands.{aloneOf, isPath, planOf, chooseOf, offerOf, markOf, argumentsOf, commandOf};
 use numbers::Pair;
 use vocabulary::Event;
 use vocabulary::Line;
+use vocabulary::Pipe;
 use vocabulary::Worker;
 use words::ShortNumber;
 
@@ -17,6 +19,14 @@ use words::ShortNumber;
 pub struct Choice {
     pub worker: Worker,
     pub line: Line,
+}
+
+// A run to open with rounding: its workers, the pipe that rounds and its base, and the start of the path of its cells.
+pub struct RoundingAt {
+    pub workers: u16,
+    pub pipe: Pipe,
+    pub base: u16,
+    pub start: usize,
 }
 
 // A journal to mark: the workers of its run, and the start of its path.
@@ -29,10 +39,13 @@ pub struct JournalAt {
 pub enum Command {
     Plan(usize),
     Open(u16),
+    OpenRounded(RoundingAt),
     Choose(Choice),
     Offer(Choice),
     Take(Event),
     Mark(JournalAt),
+    Figures,
+    Sum,
     Ended,
     Quit,
     Unknown,
@@ -47,6 +60,12 @@ pub const MOST_OF_LINE: usize = 8191;
 fn alone(word: &[u8]) -> Command
     ensures { λ r. ⌜ r ≡ aloneOf (now (word .entry)) ⌝ }
 {
+    if words::same(word, b"figures") {
+        return Command::Figures;
+    }
+    if words::same(word, b"sum") {
+        return Command::Sum;
+    }
     if words::same(word, b"ended") {
         return Command::Ended;
     }
@@ -74,16 +93,6 @@ fn plan_of(path: &[u8], start: usize) -> Command
         return Command::Plan(start);
     }
     Command::Unknown
-}
-
-// `open W`
-fn open_of(text: &[u8]) -> Command
-    ensures { λ r. ⌜ r ≡ openOf (wordsIn (now (text .entry))) ⌝ }
-{
-    match words::read_short(text) {
-        ShortNumber::Value(n) => Command::Open(n),
-        ShortNumber::Missing => Command::Unknown,
-    }
 }
 
 // `choose WORKER LINE`
@@ -139,7 +148,7 @@ fn with_arguments(word: &[u8], start: usize, rest: &[u8]) -> Command
         return plan_of(rest, start);
     }
     if words::same(word, b"open") {
-        return open_of(rest);
+        return opening::open_of(rest, start);
     }
     if words::same(word, b"choose") {
         return choose_of(rest);
