@@ -4,6 +4,8 @@ pub mod Sums
 pub mod Opening
 -- one choice, by cases;
 pub mod Choice
+-- an offer, and the taking of what was offered;
+pub mod Offered
 -- the tokens that pass;
 pub mod Passers
 -- a choice keeps to the run without rounding;

@@ -23,6 +23,8 @@ pub mod Swapping
 pub mod Journals
 -- what it is for one source of tokens to do as another;
 pub mod RelatedSources
--- and "The rounding paper" (02, 2.2).
+-- "The rounding paper" (02, 2.2);
 pub mod Rounding
 pub mod RoundedRuns
+-- and, with rounding, offers and takings.
+pub mod RoundedOffers
