@@ -20,5 +20,7 @@ pub mod RoundedRuns
 pub mod Plain
 -- figures handed on;
 pub mod Figures
--- and runs with the same cells throughout.
+-- runs with the same cells throughout;
 pub mod CarriedRuns
+-- and two choices in either order.
+pub mod Swapping

@@ -26,5 +26,6 @@ pub mod RelatedSources
 -- "The rounding paper" (02, 2.2);
 pub mod Rounding
 pub mod RoundedRuns
--- and, with rounding, offers and takings.
+-- and, with rounding, offers and takings, and two choices in either order.
 pub mod RoundedOffers
+pub mod RoundedSwapping
