@@ -4,6 +4,8 @@ pub mod Sums
 pub mod Opening
 -- one choice, by cases;
 pub mod Choice
+-- what an accepted one has passed;
+pub mod Accepting
 -- an offer, and the taking of what was offered;
 pub mod Offered
 -- the tokens that pass;
@@ -22,5 +24,9 @@ pub mod Plain
 pub mod Figures
 -- runs with the same cells throughout;
 pub mod CarriedRuns
+-- the accepted choices of a list, by themselves;
+pub mod AcceptedOnly
+-- the same choices under a larger limit;
+pub mod MoreWorkers
 -- and two choices in either order.
 pub mod Swapping

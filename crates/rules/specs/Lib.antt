@@ -26,6 +26,7 @@ pub mod RelatedSources
 -- "The rounding paper" (02, 2.2);
 pub mod Rounding
 pub mod RoundedRuns
--- and, with rounding, offers and takings, and two choices in either order.
+-- and, with rounding, offers and takings, a list of choices under a larger limit, and two in either order.
 pub mod RoundedOffers
+pub mod RoundedWorkers
 pub mod RoundedSwapping

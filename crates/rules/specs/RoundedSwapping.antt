@@ -7,7 +7,7 @@ use Rattle.rules.specs.Lists.{Every}
 use Rattle.rules.specs.Sources.{Source}
 use Rattle.rules.specs.Choices.{Choice}
 use Rattle.rules.specs.WholeRuns.{Accepted}
-use Rattle.rules.specs.Rounding.{Run, Lending, RoundedChosen, chooseRounded, answersRounded, followRounded}
+use Rattle.rules.specs.Rounding.{Run, RoundedChosen, chooseRounded, answersRounded, followRounded}
 use Rattle.rules.specs.RoundedRuns.{handedOn, figuresLeft}
 
 module _ {X : Type 0} (S : Source X) (r : Run X) where

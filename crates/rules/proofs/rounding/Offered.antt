@@ -9,32 +9,22 @@ use Rattle.vocabulary.specs.Events.{eventRecord, sameRecord}
 use Rattle.rules.specs.Sources.{Source}
 use Rattle.rules.specs.RunState.{Machine}
 use Rattle.rules.specs.Choices.{Choice, Refused, Chosen, refuse}
+use Rattle.rules.specs.WholeRuns.{Accepted}
 use Rattle.rules.specs.Offers.{isRefused, recordOf, eventOf, named, onlyIf}
 use Rattle.rules.specs.Rounding.{roundingSound, Run, Lending, RoundedChosen, refuseWith, accept, roundedWith, chooseRounded}
 use Rattle.rules.specs.RoundedOffers.{namedWith, joinWith, takeRecordRounded, namedBy, taking, TakenRounded}
 use Rattle.rules.specs.RoundedOffers.{bareChoice, lentFit, sumWithin, asHanded, checkedChoice, TakenAs, RefusedAs, TakenByChecks}
 use Rattle.rules.proofs.lists.Tests.{by-test, if-holds, never, holds, fails, see}
 use Rattle.rules.proofs.choices.Offered.{same-itself, record-is, event-accepted, is-accepted, names-choice, only-refused, only-other, only-same, same-event}
-use Rattle.rules.proofs.rounding.Choice.{InRange, refusal, spoiled, own, unfit, too-much, accepts, case, plain, rounded-unchanged}
+use Rattle.rules.proofs.rounding.Choice.{plain, InRange, refusal, rounded-unchanged}
+use Rattle.rules.proofs.rounding.Accepting.{accepted-is}
 
 module _ {X : Type 0} (S : Source X) (r : Run X) where
-  -- an accepted choice's answer is that without rounding
-  pub accepted-plain : (a : Lending) → isRefused (chooseRounded S r a .answer) ≡ false → chooseRounded S r a ≡ accept r a (plain S r a)
-  accepted-plain a ok =
-      let refused : (n : ℕ) → chooseRounded S r a ≡ refuseWith r a (Refused n) → ⊥ = λ n q. never (ap (λ (c : RoundedChosen X). isRefused (c .answer)) (sym q) ∙ ok) in
-      elim (case S r a) [
-        | spoiled m q ↦ absurd (refused 14 q)
-        | own n s b q ↦ absurd (refused n q)
-        | unfit s d m q ↦ absurd (refused 18 q)
-        | too-much s d f m q ↦ absurd (refused 14 q)
-        | accepts s d f m q ↦ q
-      ]
-
-  -- so its event names the worker and the line that were chosen
+  -- an accepted choice's event names the worker and the line that were chosen
   names-rounded : (a : Lending) (e : Event) → chooseRounded S r a .answer ≡ eventOf e → named (eventRecord e) ≡ a .choice
   names-rounded a e told =
-      let bare : plain S r a .answer ≡ eventOf e =
-      sym (ap (λ (c : RoundedChosen X). c .answer) (accepted-plain a (ap isRefused told ∙ event-accepted e))) ∙ told in
+      let ok : Accepted (chooseRounded S r a .answer) = is-accepted _ (ap isRefused told ∙ event-accepted e) in
+      let bare : plain S r a .answer ≡ eventOf e = sym (ap (λ (c : RoundedChosen X). c .answer) (accepted-is S r a ok)) ∙ told in
       ap named (sym (ap recordOf bare ∙ record-is e)) ∙
       names-choice S (r .machine) (a .choice .worker) (a .choice .line) (is-accepted _ (ap isRefused bare ∙ event-accepted e))
 

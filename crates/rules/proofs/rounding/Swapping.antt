@@ -17,10 +17,9 @@ use Rattle.rules.specs.Rounding.{Run, Lending, RoundedChosen, accept, an
 use Rattle.rules.specs.RoundedRuns.{AtOpening, handedOn, figuresLeft, roundedEnd, roundedChoices, RoundedRun}
 use Rattle.rules.specs.RoundedSwapping.{madeFirst, madeAfter, SwappedRounded, SwappingRounded}
 use Rattle.rules.proofs.choices.Joined.{answers-one}
-use Rattle.rules.proofs.choices.Offered.{not-refused}
 use Rattle.rules.proofs.runs.Swapping.{swapping}
 use Rattle.rules.proofs.rounding.Passers.{passersOf, passing-with, passers-one, passers-part}
-use Rattle.rules.proofs.rounding.Offered.{accepted-plain}
+use Rattle.rules.proofs.rounding.Accepting.{accepted-is}
 use Rattle.rules.proofs.rounding.RoundedRuns.{rounded-run}
 
 -- if two pass, they are one token
@@ -70,13 +69,13 @@ module _ {X : Type 0} (S : Source X) (r : Run X) (cells figures : List ℕ) wher
   module _ (a b : Choice) (ok : Every Accepted (answersRounded S r (handedOn S cells r figures (a ∷ b ∷ [])))) where
     first-is : madeFirst S r cells figures a ≡ accept r (lent a figures) (bare a)
     unfolding answersRounded handedOn
-    first-is = accepted-plain S r (lent a figures) (not-refused _ (ok .0))
+    first-is = accepted-is S r (lent a figures) (ok .0)
 
     after-is : madeAfter S r cells figures a b ≡
         (let c : RoundedChosen X = accept r (lent a figures) (bare a) in accept (c .run) (lent b (c .figures)) (bareAfter a b))
     unfolding answersRounded handedOn
     after-is =
-        accepted-plain S (madeFirst S r cells figures a .run) (lent b (madeFirst S r cells figures a .figures)) (not-refused _ (ok .1 .0)) ∙
+        accepted-is S (madeFirst S r cells figures a .run) (lent b (madeFirst S r cells figures a .figures)) (ok .1 .0) ∙
         ap (λ (c : RoundedChosen X). accept (c .run) (lent b (c .figures)) (chooseBy S (c .run .machine) b)) first-is
 
     -- are accepted without rounding too
