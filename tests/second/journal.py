@@ -4,7 +4,7 @@ import struct
 
 import plan_file
 from plan_file import MOST_PIPES, MOST_TOKENS, Refused
-from run import REFUSED, STOPPED, Run
+from run import LENT, REFUSED, STOPPED, Run
 
 # A record's fields: kind, a byte; line, pipe, token, place and worker, two bytes each, low byte first.
 FIELDS = ("kind", "line", "pipe", "token", "place", "worker")
@@ -15,7 +15,6 @@ MOST_EVENTS = 2 * MOST_TOKENS * MOST_PIPES + 1
 # What is read of a file: a record more, so that a journal past every end is seen to be one.
 LONGEST_JOURNAL = RECORD * (MOST_EVENTS + 1)
 
-LENT = 32768
 OTHER_EVENT = 20
 
 COMPLETE = "complete"

@@ -10,6 +10,8 @@ MOST_WORKERS = 32
 # The counters lie in one list of 32 x 16, whatever the plan uses of it.
 COUNTERS = 512
 PIPES_EACH = 16
+# How many numbers an opening and a choice must be lent.
+LENT = 32768
 
 STARTED = "S"
 FINISHED = "F"
@@ -108,18 +110,19 @@ class Run:
             carried = self.carries[line]
         return (FINISHED if self.running[line] else STARTED, line, pipe, *carried, worker)
 
-    def take(self, event):
+    def take(self, event, *lent):
         """The choice that made this event, if that is still what the line would do.
 
-        The choice's own refusals come first, then 19 for an event that differs.
+        The choice's own refusals come first, then 19 for an event that differs. What a run
+        is lent for a choice (rounding.py), it is lent for a taking.
         """
         line, worker = event[1], event[-1]
-        offered = self.offer(worker, line)
+        offered = self.offer(worker, line, *lent)
         if offered[0] == REFUSED:
             return offered
         if offered != event:
             return (REFUSED, 19)
-        return self.choose(worker, line)
+        return self.choose(worker, line, *lent)
 
     def start(self, worker, line):
         pipe = self.at[line]
