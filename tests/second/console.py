@@ -1,12 +1,13 @@
 """The console: a command a line in, an answer a line out, over files in a folder."""
 
 import os
+import struct
 
 import plan_file
 from journal import LONGEST_JOURNAL, mark, records_in, verdict_line
-from plan_file import EDITION, LONGEST_FILE, Refused
+from plan_file import EDITION, LONGEST_FILE, MOST_TOKENS, Refused
 from program import line_of
-from run import Run
+from rounding import RoundedRun, open_rounded
 
 LONGEST_LINE = 8191
 LONGEST_PATH = 4095
@@ -14,6 +15,9 @@ LARGEST = 65535
 DIGITS = b"0123456789"
 # How many numbers follow an event's letter.
 NUMBERS = {b"S": 5, b"F": 5, b"X": 2}
+# A cell in a file: four bytes, low byte first. What is read: a cell more than any plan has tokens.
+CELL = struct.Struct("<I")
+LONGEST_CELLS = CELL.size * (MOST_TOKENS + 1)
 UNKNOWN = "?"
 # A choice, an offer or a taking on a state of zeros.
 NO_RUN = "R 14"
@@ -44,6 +48,15 @@ def event_in(words):
     return None if numbers is None else (words[0].decode("ascii"), *numbers)
 
 
+def cells_in(data):
+    """The whole cells in these bytes; a shorter rest is ignored."""
+    return [cell for cell, in CELL.iter_unpack(data[:len(data) // CELL.size * CELL.size])]
+
+
+def cells_bytes(cells):
+    return b"".join(CELL.pack(cell) for cell in cells)
+
+
 def is_path(path):
     return 1 <= len(path) <= LONGEST_PATH
 
@@ -64,13 +77,16 @@ def file_at(folder, path, most):
 
 
 class Console:
-    """Keeps a plan file and a run, or None for a state of zeros."""
+    """Keeps a plan file and a run, or None for a state of zeros, with its cells and figures."""
 
     def __init__(self, folder):
         self.folder = folder
         self.file = b""
-        self.run = None
+        self.keep(None)
         self.over = False
+
+    def keep(self, run, cells=(), figures=()):
+        self.run, self.cells, self.figures = run, cells, figures
 
     def answer(self, line):
         """What a line, without its newline, is answered by; None for `quit`."""
@@ -81,6 +97,10 @@ class Console:
             return None
         if line == b"ended":
             return "E" if self.run is not None and self.run.ended else "O"
+        if line == b"figures":
+            return " ".join(["C", *map(str, self.figures)])
+        if line == b"sum":
+            return f"T {0 if self.run is None else self.run.rounding.sum}"
         word, space, rest = line.partition(b" ")
         if not space:
             return UNKNOWN
@@ -95,8 +115,7 @@ class Console:
             event = event_in(words)
             return UNKNOWN if event is None else self.take(event)
         if word == b"open":
-            numbers = numbers_in(words, 1)
-            return UNKNOWN if numbers is None else self.open(*numbers)
+            return self.open_by(rest)
         if word in (b"choose", b"offer"):
             numbers = numbers_in(words, 2)
             if numbers is None:
@@ -113,22 +132,44 @@ class Console:
             return f"R {refused.number}"
         return f"P {len(plan.pipes)} {plan.lines} {plan.tokens} {len(plan.records)} {EDITION}"
 
+    def open_by(self, rest):
+        """W alone, or with pipe, base and a path."""
+        words = rest.split(b" ", 3)
+        if len(words) == 1:
+            numbers = numbers_in(words, 1)
+            return UNKNOWN if numbers is None else self.open(*numbers)
+        *words, path = words
+        numbers = numbers_in(words, 3)
+        return UNKNOWN if numbers is None or not is_path(path) else self.open_rounded(*numbers, path)
+
     def open(self, workers):
-        self.run = None
+        self.keep(None)
         try:
-            self.run = Run(plan_file.read(self.file), workers)
+            self.keep(RoundedRun(plan_file.read(self.file), workers))
         except Refused as refused:
             return f"R {refused.number}"
         return "A"
 
-    def choose(self, worker, line):
-        return NO_RUN if self.run is None else line_of(self.run.choose(worker, line))
+    def open_rounded(self, workers, pipe, base, path):
+        cells = cells_in(file_at(self.folder, path, LONGEST_CELLS))
+        # As many figures are lent as cells; none of either after a refusal.
+        figures = [0] * len(cells)
+        self.keep(None)
+        try:
+            run = open_rounded(plan_file.read(self.file), workers, pipe, base, cells, figures)
+        except Refused as refused:
+            return f"R {refused.number}"
+        self.keep(run, cells, figures)
+        return "A"
 
-    def offer(self, worker, line):
-        return NO_RUN if self.run is None else line_of(self.run.offer(worker, line))
+    def choose(self, *choice):
+        return NO_RUN if self.run is None else line_of(self.run.choose(*choice, self.cells, self.figures))
+
+    def offer(self, *choice):
+        return NO_RUN if self.run is None else line_of(self.run.offer(*choice, self.cells, self.figures))
 
     def take(self, event):
-        return NO_RUN if self.run is None else line_of(self.run.take(event))
+        return NO_RUN if self.run is None else line_of(self.run.take(event, self.cells, self.figures))
 
     def mark(self, workers, path):
         # A run of its own, over the kept plan file: the open run is not touched.
