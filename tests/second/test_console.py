@@ -14,7 +14,17 @@ import makers
 import scripts
 from cases import CASES
 from chance import Chance
-from console import LONGEST_LINE, Console, console_output, event_in, lines_in, number_in
+from console import (
+    LONGEST_CELLS,
+    LONGEST_LINE,
+    Console,
+    cells_bytes,
+    cells_in,
+    console_output,
+    event_in,
+    lines_in,
+    number_in,
+)
 from journal import LONGEST_JOURNAL, MOST_EVENTS, RECORD, journal_bytes, journal_of
 from plan_file import Plan, encode
 
@@ -129,6 +139,13 @@ class Commands(InAFolder):
             b"mark 1\tj", b"mark x j", b"mark 1a j", b"mark -1 j", b"mark +1 j", b"mark j", b"mark j 1",
             b"mark 65536 j", b"mark 65537 j", b"mark 4294967297 j", b"Mark 1 j", b"mark 1 " + b"j" * 4096,
             b"mark ".ljust(LONGEST_LINE - 1, b"0") + b"1 j", b"marks 1 j",
+            b"open 1 0", b"open 1 0 ", b"open 1 0 3", b"open 1 0 3 ", b"open  1 0 3 c", b"open 1  0 3 c",
+            b"open 1 0  3 c", b" open 1 0 3 c", b"open\t1 0 3 c", b"open 1 0 3\tc", b"open x 0 3 c",
+            b"open 1 x 3 c", b"open 1 0 x c", b"open 1 0 c", b"open 1 0 c 3", b"open 65536 0 3 c",
+            b"open 1 65536 3 c", b"open 1 0 65539 c", b"open 1 -0 3 c", b"open 1 0 +3 c", b"Open 1 0 3 c",
+            b"open 1 0 3 " + b"c" * 4096, b"open ".ljust(LONGEST_LINE - 5, b"0") + b"1 0 3 c",
+            b"figures ", b" figures", b"figures 0", b"Figures", b"figure", b"figuress", b"figures\r",
+            b"sum ", b" sum", b"sum 0", b"Sum", b"su", b"sums", b"sum\0",
         ):
             before, file = self.console.run.state(), self.console.file
             self.check((line, "?"))
@@ -256,6 +273,130 @@ class Marks(InAFolder):
         self.check_journal(whole + whole[:11], "wrong 131073 11")
         self.check_journal(whole * 3, "wrong 131073 11")
         self.check_journal(whole[:-1], "correct so far")
+
+
+class Roundings(InAFolder):
+    """Case d: token 0 waits for 1, so that the cell of 1 passes first."""
+
+    def setUp(self):
+        super().setUp()
+        self.put("d.plan", encode(CASES["d"].plan(pipes=[True, False, True], lines=2)))
+        self.put("c", cells_bytes([4, 3]))
+        self.check((b"plan d.plan", "P 3 2 2 1 1"))
+
+    NONE = ((b"figures", "C"), (b"sum", "T 0"))
+
+    def to_the_end(self):
+        """One worker to the end of case d."""
+        for line in (0, 1):
+            for _ in range(6):
+                self.assertIn(self.console.answer(b"choose 0 %d" % line)[0], "SF")
+        self.check((b"choose 0 0", "X 0 0"), (b"ended", "E"))
+
+    def test_a_run(self):
+        self.check(*self.NONE, (b"open 1 2 5 c", "A"), (b"figures", "C 0 0"), (b"sum", "T 0"))
+        # A cell passes when its token finishes that pipe.
+        for answer in ("S 0 0 1 0 0", "F 0 0 1 0 0", "S 0 1 1 0 0", "F 0 1 1 0 0", "S 0 2 1 0 0"):
+            self.check((b"choose 0 0", answer), (b"figures", "C 0 0"), (b"sum", "T 0"))
+        # An offer and a taking that is refused pass none.
+        self.check((b"offer 0 0", "F 0 2 1 0 0"), (b"take F 0 2 0 0 0", "R 19"), (b"choose 1 0", "R 26"))
+        self.check((b"figures", "C 0 0"), (b"sum", "T 0"))
+        self.check((b"take F 0 2 1 0 0", "F 0 2 1 0 0"), (b"figures", "C 0 5"), (b"sum", "T 3"))
+        for _ in range(6):
+            self.check((b"figures", "C 0 5"), (b"sum", "T 3"))
+            self.console.answer(b"choose 0 1")
+        self.check((b"choose 0 0", "X 0 0"), (b"ended", "E"), (b"figures", "C 0 5"), (b"sum", "T 7"))
+        self.check((b"choose 0 0", "R 11"), (b"figures", "C 0 5"), (b"sum", "T 7"))
+
+    def test_pipes_and_bases(self):
+        for pipe, base, figures in ((0, 5, "C 0 5"), (2, 5, "C 0 5"), (0, 3, "C 3 3"), (2, 3, "C 3 3")):
+            self.check((b"open 1 %d %d c" % (pipe, base), "A"), (b"figures", "C 0 0"), (b"sum", "T 0"))
+            self.to_the_end()
+            self.check((b"figures", figures), (b"sum", "T 7"))
+
+    def test_what_is_lent(self):
+        for line, answer in (
+            (b"open 1", "A"), (b"open 0", "R 8"), (b"open 33", "R 8"), (b"open 0 2 5 c", "R 8"),
+            (b"open 1 1 5 c", "R 16"), (b"open 1 2 4 c", "R 17"), (b"open 1 2 5 missing", "R 18"),
+        ):
+            self.check((b"open 1 0 5 c", "A"))
+            self.to_the_end()
+            # What is no command leaves them, and so does a plan.
+            self.check((b"open 1 0 5", "?"), (b"plan missing", "R 1"), (b"plan d.plan", "P 3 2 2 1 1"))
+            self.check((b"figures", "C 0 5"), (b"sum", "T 7"))
+            # None of either after an opening without rounding, or one that is refused.
+            self.check((line, answer), *self.NONE)
+            self.check((b"choose 0 0", "S 0 0 1 0 0" if answer == "A" else "R 14"), *self.NONE)
+        # The file as it was when it was read.
+        self.check((b"open 1 0 5 c", "A"))
+        self.put("c", b"")
+        self.to_the_end()
+        self.check((b"figures", "C 0 5"), (b"sum", "T 7"))
+
+    def test_order_of_refusals(self):
+        for line, number in (
+            (b"33 3 4 missing", 8), (b"0 2 5 c", 8), (b"1 3 4 missing", 16), (b"1 1 5 c", 16), (b"1 65535 5 c", 16),
+            (b"1 258 5 c", 16), (b"1 2 4 missing", 17), (b"1 2 0 c", 17), (b"1 2 261 c", 17), (b"1 2 5 missing", 18),
+        ):
+            self.check((b"open 1", "A"), (b"open " + line, f"R {number}"), (b"offer 0 0", "R 14"))
+        self.put("bad.plan", encode(CASES["d"].plan())[1:])
+        for path, number in ((b"bad.plan", 2), (b"missing", 1)):
+            self.check((b"plan " + path, f"R {number}"), (b"open 33 3 4 missing", f"R {number}"), *self.NONE)
+
+    def test_cells(self):
+        fit = cells_bytes([4, 3])
+        for content, number in (
+            (fit, 0), (fit + b"\1", 0), (fit + b"\xff\xff\xff", 0), (fit + bytes(4), 18), (fit[:-1], 18), (b"", 18),
+            (fit[:4], 18), (fit * 3, 18), (cells_bytes([1_000_000] * 2), 0), (cells_bytes([0, 1_000_001]), 18),
+            (cells_bytes([1_000_001, 0]), 18), (b"\0\0\0\1" * 2, 18), (b"\xff" * 8, 18), (bytes(8), 0),
+        ):
+            self.put("c", content)
+            self.check((b"open 1 2 5 c", f"R {number}" if number else "A"))
+            self.check((b"figures", "C" if number else "C 0 0"))
+        # Low byte first.
+        self.assertEqual(cells_in(bytes.fromhex("01020304 05060708 09")), [0x04030201, 0x08070605])
+        self.assertEqual(cells_bytes([0x04030201]), b"\1\2\3\4")
+        # A missing file is an empty one, and fits a plan without tokens.
+        self.put("none.plan", encode(CASES["c"].plan()))
+        self.check((b"plan none.plan", "P 1 1 0 0 1"), (b"open 1 0 5 missing", "A"), *self.NONE)
+        self.check((b"choose 0 0", "X 0 0"), *self.NONE, (b"open 1 0 5 d.plan", "R 18"))
+
+    def test_how_many_cells(self):
+        self.assertEqual(LONGEST_CELLS, 4 * 4097)
+        self.put("full.plan", encode(Plan([True], 1, 4096)))
+        self.check((b"plan full.plan", "P 1 1 4096 0 1"))
+        for many, number in ((4095, 18), (4096, 0), (4097, 18), (4098, 18), (8192, 18), (70000, 18)):
+            self.put("c", cells_bytes([1_000_000] * many))
+            self.check((b"open 1 0 3 c", f"R {number}" if number else "A"))
+            self.check((b"figures", "C" if number else "C" + " 0" * 4096))
+        self.put("c", cells_bytes([1_000_000] * 4096) + b"\0\0\0")
+        self.check((b"open 1 0 3 c", "A"), (b"choose 0 0", "S 0 0 0 0 0"), (b"choose 0 0", "F 0 0 0 0 0"))
+        self.check((b"sum", "T 1000000"), (b"figures", "C 999999" + " 0" * 4095))
+
+    def test_paths(self):
+        for name in scripts.NAMES[1:]:
+            self.check((b"open 1 2 5 " + name, "R 18"))
+            self.put(os.fsdecode(name), cells_bytes([4, 3]))
+            self.check((b"open 1 2 5 " + name, "A"))
+        for name in scripts.NOT_THERE:
+            self.check((b"open 1 2 5 " + name, "R 18"))
+        # A fourth space is the path's own.
+        self.put(" c", cells_bytes([4, 3]))
+        self.put("c", b"")
+        self.check((b"open 1 2 5 c", "R 18"), (b"open 1 2 5  c", "A"), (b"open 1 2 5   c", "R 18"))
+        for size, answer in ((4094, "A"), (4095, "A"), (4096, "?"), (4097, "?")):
+            self.check((b"open 1 2 5 ." + b"/" * (size - 3) + b" c", answer))
+        line = b"open 1 ".ljust(LONGEST_LINE - 6, b"0") + b"2 5  c"
+        self.assertEqual(len(line), LONGEST_LINE)
+        self.check((line, "A"), (line.replace(b"1 ", b"1 0", 1), "?"), (b"open 001 0002 05  c", "A"))
+
+    def test_marks_leave_them(self):
+        self.check((b"open 1 0 5 c", "A"))
+        self.to_the_end()
+        self.put("j", Marks.WHOLE)
+        for line in (b"mark 1 j", b"mark 0 j", b"mark 1 missing"):
+            self.assertNotEqual(self.console.answer(line), "?")
+            self.check((b"figures", "C 0 5"), (b"sum", "T 7"), (b"ended", "E"))
 
 
 class Scripts(unittest.TestCase):
