@@ -12,10 +12,10 @@ limit, if all its workers are below W. A long run in which one of these never ca
 ends with 1, too.
 
 Each script of the console is a list of commands, and of lines that are none, over
-fresh plan files and journals of real runs, many of them damaged; its input comes in
-pieces or as a file. The first difference ends the comparison with 1, and
-its files are left in a folder. So does a long run in which a kind of line, journal or
-answer never came.
+fresh plan files, journals of real runs and cells to be rounded, many of them damaged;
+its input comes in pieces or as a file. The first difference ends the comparison with 1, and
+its files are left in a folder. So does a long run in which a kind of line, journal, cells
+or answer never came.
 """
 
 import argparse

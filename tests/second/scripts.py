@@ -1,4 +1,4 @@
-"""Random input for the console: its plan files and journals, its lines, and the pieces in which it comes.
+"""Random input for the console: its plan files, journals and cells, its lines, and the pieces in which it comes.
 
 The second implementation hears each line as it is made, so that the next can go by
 its answer: takings of what was offered, say.
@@ -7,6 +7,7 @@ its answer: takings of what was offered, say.
 import os
 from collections import Counter
 
+import cell_makers
 import journal_makers
 import makers
 import plan_file
@@ -14,6 +15,7 @@ from console import LARGEST, LONGEST_LINE, LONGEST_PATH, Console, event_in, file
 from journal import COMPLETE, LONGEST_JOURNAL, SO_FAR, WRONG, journal_bytes, record_of, records_in
 from makers import raw_file, raw_record
 from plan_file import LONGEST_FILE, Refused, encode
+from rounding import BASES
 from run import FINISHED, REFUSED, STARTED, STOPPED
 
 # Names that a path must be read to the byte for; the last one is as long as can be.
@@ -21,8 +23,9 @@ NAMES = [
     b"a.plan", b"two words.plan", b" a space first", b"a space last ", b"bl\xc3\xa5", b"\xff\xfe",
     b"0", b"quit", b"n" * 255,
 ]
-# The same of journals, of which each has a number of its own.
+# The same of journals and cells, of which each has a number of its own.
 JOURNAL_NAMES = [b"j%d", b"a journal %d", b" %d first", b"%d last ", b"%d 2", b"\xff%d"]
+CELLS_NAMES = [b"c%d", b"some cells %d", b" %d cells", b"%d cells ", b"%d 0 3 c", b"3 %d c", b"\xfe%d"]
 NOT_THERE = [
     b"missing", b"a.pla", b"A.plan", b"a.plan\0", b"\0", b"n" * 256, b".", b"/", b"no/a.plan",
     b"/dev/null",
@@ -33,9 +36,11 @@ LENGTHS = (8190, 8191, 8191, 8192, 8193, 70000, 140000)
 
 OTHER_WORDS = [
     b"end", b"Ended", b"endedd", b"QUIT", b"qui", b"chose 0 0", b"choose", b"offer", b"take", b"open", b"plan",
-    b"?", b"R 14", b"E", b"X 0 0", b"S 0 0 0 0 0", b"draw 1", b"figures", b"sum", b"due 0", b"chain 0",
+    b"?", b"R 14", b"E", b"X 0 0", b"S 0 0 0 0 0", b"draw 1", b"due 0", b"chain 0",
+    b"figure", b"Figures", b"figuress", b"figures 0", b"su", b"Sum", b"sums", b"sum 0", b"C 0", b"T 0",
+    b"open 1 0", b"open 1 0 3", b"open 1 0 3 ", b"open 1 0  3 a.plan", b"open 1 a.plan", b"open 1 0 a.plan",
     b"mark", b"mark 1", b"mark 1 ", b"mark  1 a.plan", b"Mark 1 a.plan", b"marks 1 a.plan", b"mark a.plan",
-    b"mark a.plan 1", b"write S 1 1 a b", b"up a b", b"down a b", b"open 1 0 3 a.plan",
+    b"mark a.plan 1", b"write S 1 1 a b", b"up a b", b"down a b",
 ]
 NO_NUMBERS = [
     b"", b"+1", b"-1", b"-0", b"a", b"1a", b"0x1", b"1.0", b"1\0", b"\0", b"\xd9\xa1", b"\xb2",
@@ -51,6 +56,12 @@ PADDED = "a number with leading zeros"
 KEPT = "a plan in the middle of a run"
 MARKED = "a mark in the middle of a run"
 OWN_JOURNAL = "the open run's"
+PARALLEL_PIPE = "rounding at a parallel pipe"
+NO_PIPE = "rounding at a pipe that is not there"
+ROUNDING_ENDED = "the figures of an ended run with rounding"
+IN_BETWEEN = "the figures of a run with rounding that goes on"
+NONE_LENT = "figures where none are lent"
+SOME_SUM = "a sum above 0"
 BEYOND_W = "a journal with a worker of W or more"
 BY_ANOTHER = "a journal with a finish by another worker"
 NUL_BYTE = "a path with a NUL byte"
@@ -67,22 +78,28 @@ IN_PIECES = "an input in other pieces"
 
 ANSWERS = {
     "plan": ("P", *range(1, 8)),
-    "open": ("A", *range(1, 9)),
+    "open": ("A", *range(1, 9), 16, 17, 18),
     "choose": ("S", "F", "X", 10, 11, 12, 13, 14, 26),
     "offer": ("S", "F", "X", 10, 11, 12, 13, 14, 26),
     "take": ("S", "F", "X", 10, 11, 12, 13, 14, 19, 26),
     "ended": ("E", "O"),
+    "figures": ("C",),
+    "sum": ("T",),
     "mark": (COMPLETE, SO_FAR, *(f"{WRONG} {number}" for number in (10, 11, 12, 13, 20, 26)), *range(1, 9)),
 }
 # What a long run of scripts must have tried.
 KINDS = (
     *(f"{word} {kind}" for word, kinds in ANSWERS.items() for kind in kinds),
     "?", "an empty line", f"a line above {LONGEST_LINE} bytes", f"a command of {LONGEST_LINE} bytes",
-    *(f"{word} with {path}" for word in ("plan", "mark") for path in (AT_THE_LIMIT, TOO_LONG, NUL_BYTE, MISSING)),
+    *(f"{word} with {path}" for word in ("plan", "mark", "open")
+      for path in (AT_THE_LIMIT, TOO_LONG, NUL_BYTE, MISSING)),
     *(f"a taking with another {field}" for field in FIELDS),
     *(f"{one} taken as {two}" for one in "SFX" for two in "SFX" if one != two),
     f"{OLD} accepted", f"{OLD} refused", f"{OLD} R 19",
     *(f"a journal: {done}" for done in (OWN_JOURNAL, *journal_makers.DAMAGES)),
+    *(f"cells: {done}" for done in cell_makers.DAMAGES),
+    *(f"a cell passed by {word}" for word in ("choose", "take")),
+    PARALLEL_PIPE, NO_PIPE, ROUNDING_ENDED, IN_BETWEEN, NONE_LENT, SOME_SUM,
     PADDED, KEPT, MARKED, BEYOND_W, BY_ANOTHER, BLOCK_END, LONG_OVER_BLOCK, QUIT, OPEN_END,
     AS_FILE, IN_BLOCKS, IN_PIECES,
 )
@@ -140,6 +157,9 @@ class Script:
         # Whether journals are marked, and the names of those that are there, each with its W.
         self.marking = chance.one_in(3)
         self.journals = {}
+        # Whether runs are opened with rounding, and the names of the cells that are there.
+        self.rounding = chance.one_in(2)
+        self.cells = []
         # How often a choice is by any worker, and whether starts come before finishes.
         self.others = chance.between(2, 8)
         self.finish_late = chance.one_in(2)
@@ -172,7 +192,20 @@ class Script:
         if word in ("plan", "mark"):
             in_a_run = before is not None and not before.ended
             self.figures[KEPT if word == "plan" else MARKED] += in_a_run
+        self.count_rounding(word, answer)
         return answer
+
+    def count_rounding(self, word, answer):
+        run = self.console.run
+        if word == "figures":
+            self.figures[NONE_LENT] += answer == "C"
+            if run is not None and run.rounding.base:
+                self.figures[ROUNDING_ENDED if run.ended else IN_BETWEEN] += 1
+        elif word == "sum":
+            self.figures[SOME_SUM] += answer != "T 0"
+        elif word in ("choose", "take") and answer[0] == FINISHED:
+            passed = run.passes(event_in(answer.encode("ascii").split(b" ")))
+            self.figures[f"a cell passed by {word}"] += passed
 
     def fill_block(self, ahead):
         """Lines that put a block's end so many bytes into what comes next."""
@@ -232,9 +265,12 @@ class Script:
         chance = self.chance
         worker, line = self.some_choice()
         workers = b"%d" % chance.pick([1, 2, 32, 33])
-        manner = chance.below(5)
+        manner = chance.below(6)
         if manner == 0:
             return [b"open", workers]
+        if manner == 5:
+            numbers = (b"%d" % chance.pick([0, 0, 1, 2]), b"%d" % chance.pick([3, 5, 5, 4]))
+            return [b"open", workers, *numbers, chance.pick(self.cells or sorted(self.files))]
         if manner == 1:
             return self.take_line(self.some_event(worker, line)).split(b" ")
         if manner == 2:
@@ -246,7 +282,7 @@ class Script:
         chance = self.chance
         if chance.one_in(8):
             name = chance.pick([*NOT_THERE, *NAMES, name + b"\0", name + b"\0x", name + b" ", b" " + name])
-            if name not in self.files and name not in self.journals:
+            if name not in self.files and name not in self.journals and name not in self.cells:
                 what = NUL_BYTE if b"\0" in name else MISSING
                 self.figures[f"{word} with {what}"] += 1
             return name
@@ -270,9 +306,67 @@ class Script:
         if chance.one_in(8):
             limits = [0, 33, 34, 256, 257, LARGEST]
         self.old.clear()
-        answer = self.say(self.numbered(b"open", chance.pick(limits)))
+        line = self.numbered(b"open", chance.pick(limits))
+        if self.rounding and not chance.one_in(4):
+            line = self.with_rounding(line)
+        answer = self.say(line)
         self.opened_at = len(self.lines)
         return answer
+
+    def kept_plan(self):
+        """The plan that is kept, or None where it is refused."""
+        try:
+            return plan_file.read(self.console.file)
+        except Refused:
+            return None
+
+    # Rounding.
+
+    def with_rounding(self, line):
+        """The opening with a pipe, a base and cells, mostly such as the kept plan needs."""
+        chance, plan = self.chance, self.kept_plan()
+        kinds = [True] if plan is None else plan.pipes
+        serial = [pipe for pipe, kind in enumerate(kinds) if kind]
+        parallel = [pipe for pipe, kind in enumerate(kinds) if not kind]
+        pipe, base = chance.pick(serial), chance.pick(BASES)
+        manner = chance.below(10)
+        if manner == 0 and parallel:
+            pipe = chance.pick(parallel)
+            self.figures[PARALLEL_PIPE] += 1
+        elif manner == 1:
+            pipe = chance.pick([len(kinds), len(kinds), 16, pipe + 256, LARGEST])
+            self.figures[NO_PIPE] += 1
+        if chance.one_in(12):
+            base = chance.pick([0, 1, 2, 4, 6, 15, base + 256, LARGEST])
+        path = self.path_to("open", self.some_cells(chance.below(9) if plan is None else plan.tokens))
+        return line + self.numbered(b"", pipe, base) + b" " + path
+
+    def some_cells(self, tokens):
+        """The name of a cells file: a new one, or an old one, be the plan another."""
+        chance = self.chance
+        if self.cells and chance.one_in(6):
+            return chance.pick(self.cells)
+        content, done = cell_makers.any_cells(chance, tokens)
+        name = chance.pick(CELLS_NAMES) % len(self.cells)
+        with open(os.path.join(self.folder, name), "wb") as file:
+            file.write(content)
+        self.cells.append(name)
+        self.figures[f"cells: {done}"] += 1
+        return name
+
+    def end_rounding(self):
+        """Now and then the run is followed to its end first, if that is near."""
+        chance = self.chance
+        if chance.one_in(2):
+            for _ in range(400):
+                run = self.console.run
+                if run is None or run.ended:
+                    break
+                lines = [line for line in range(run.lines) if not run.refusal(run.practice_worker(line), line)]
+                line = chance.pick(lines)
+                self.say(self.numbered(b"choose", run.practice_worker(line), line))
+        for line in chance.shuffled([b"figures", b"sum"]):
+            self.say(line)
 
     # Takings.
 
@@ -347,9 +441,8 @@ class Script:
         run = self.console.run
         if run is not None and self.chance.one_in(5):
             return self.own_journal(), run.workers, OWN_JOURNAL
-        try:
-            plan = plan_file.read(self.console.file)
-        except Refused:
+        plan = self.kept_plan()
+        if plan is None:
             return journal_makers.any_journal(self.chance)
         return journal_makers.any_journal(self.chance, plan, 300 if plan.tokens <= 60 else 100)
 
@@ -400,7 +493,7 @@ class Script:
         if manner == 2:
             return b" ".join(words[:chance.between(1, len(words) - 1)])
         if manner == 3:
-            command = chance.pick([b" ".join(words), b"ended", b"quit"])
+            command = chance.pick([b" ".join(words), b"ended", b"quit", b"figures", b"sum"])
             return command + b" " + chance.pick([b"", b"0", b"ended"])
         if manner == 4:
             words[chance.below(len(words))] += chance.pick([b" ", b"\t", b"\0", b"\r", b"\x0b"])
@@ -410,7 +503,7 @@ class Script:
             words[at] = chance.pick(NO_NUMBERS)
             return b" ".join(words)
         if manner == 6:
-            command = chance.pick([b"plan ", b"mark 1 "])
+            command = chance.pick([b"plan ", b"mark 1 ", b"open 1 0 3 "])
             return command + b"p" * chance.pick([0, LONGEST_PATH + 1, LONGEST_LINE - len(command)])
         if manner == 7:
             noise = bytes(chance.pick([chance.below(256), 32, 48, 49]) for _ in range(chance.below(30)))
@@ -431,7 +524,7 @@ class Script:
         words = self.command()
         manner = chance.below(4)
         if manner < 2:  # a command, as far as its length goes
-            at = 1 if words[0] == b"mark" else -1
+            at = 1 if words[0] in (b"mark", b"open") else -1
             more = size - len(b" ".join(words))
             words[at] = b"0" * more + words[at]
             return b" ".join(words)
@@ -454,6 +547,8 @@ class Script:
         chance = self.chance
         if self.marking and chance.one_in(30):
             self.mark()
+        if chance.one_in(25 if self.rounding else 200):
+            self.say(chance.pick([b"figures", b"sum"]))
         manner = chance.below(80)
         if manner < 36:
             self.say(self.numbered(b"choose", *self.some_choice()))
@@ -484,7 +579,11 @@ class Script:
         for _ in range(chance.between(1, 5)):
             self.plan_and_marks()
             opened = self.open() == "A"
+            if self.rounding and not opened and self.kept_plan() and chance.below(4):
+                opened = self.open() == "A"
             self.steps(chance.pick([5, 40, 150, 400]) if opened else chance.between(0, 8))
+            if self.rounding:
+                self.end_rounding()
         if not self.one_by_one and chance.one_in(5):
             unheard = chance.pick([0, 1, 5, 20000])
             self.lines += [b"quit"] + [chance.pick([b"ended", b"quit", b"", b"open 1"])] * unheard

@@ -13,6 +13,7 @@ sys.path.insert(0, str(HERE))
 
 import makers
 from cases import CASES
+from cell_makers import random_cells
 from chance import Chance
 from makers import one_worker_list
 from plan_file import Plan, Refused
@@ -29,14 +30,6 @@ from rounding import (
 )
 from run import FINISHED, LENT, MOST_WORKERS, REFUSED, STARTED, STOPPED, Run
 from sheet import plain_sheet
-
-
-def random_cells(chance, many):
-    """Cells of one of several manners."""
-    most = chance.pick([1, 4, 9, 100, LARGEST_CELL])
-    if chance.one_in(6):
-        return [most] * many
-    return [chance.pick([0, most, chance.between(0, most), chance.between(0, most)]) for _ in range(many)]
 
 
 def serial_pipes(plan):
