@@ -1,8 +1,8 @@
-"""The examples: plans, worker orders with what the program prints on them, and journals.
+"""The examples: plans, worker orders with what the program prints on them, journals, and cells with commands.
 
 --write makes them anew with the second implementation, --check fails if a stored one differs,
 --run PROGRAM runs the program on each worker order and compares. tests/console.py has the
-console mark the journals.
+console mark the journals and answer the commands.
 """
 
 import os
@@ -15,11 +15,14 @@ ROOT = os.path.dirname(HERE)
 FOLDER = os.path.join(ROOT, "examples")
 sys.path.insert(0, os.path.join(HERE, "second"))
 
+from console import cells_bytes, console_output  # noqa: E402
 from journal import COMPLETE, WRONG, journal_bytes, journal_of, mark  # noqa: E402
 from plan_file import Plan, encode, read  # noqa: E402
 from makers import by_practice, one_worker_list, program_input  # noqa: E402
 from program import output  # noqa: E402
+from rounding import published, sheet_figures  # noqa: E402
 from run import Run  # noqa: E402
+from sheet import plain_sheet  # noqa: E402
 
 SERIAL, PARALLEL = True, False
 
@@ -32,19 +35,20 @@ PLANS = {
     "stuck": Plan([SERIAL, PARALLEL], 2, 6, [(1, [2]), (2, [1]), (4, [9])]),
     # A parallel second pipe lets token 1 overtake token 0.
     "overtaking": Plan([SERIAL, PARALLEL], 2, 2, []),
+    # Ten cells to be rounded: 2 waits for 5, and 6 for 7 and 8.
+    "rounding": Plan([SERIAL, SERIAL], 3, 10, [(2, [5]), (6, [7, 8])]),
 }
+
+# The cells of `rounding`, token by token, with the pipe that rounds them and its base.
+CELLS = [2, 2, 11, 1, 7, 2, 4, 2, 6, 2]
+ROUNDING_PIPE, BASE = 1, 5
 
 
 # The small run of the README, by two workers over `backwards`.
 SMALL_RUN = list(zip([0, 0, 0, 1, 0, 1, 0, 1, 0, 1, 0, 0, 0], [0, 0, 1, 0, 1, 0, 1, 0, 1, 0, 1, 0, 0]))
 
 
-def one_worker(plan):
-    """The paper's one-worker run: each place through all pipes, then the line that stops."""
-    return program_input(1, one_worker_list(plan))
-
-
-def all_lines(plan, workers):
+def all_lines_list(plan, workers):
     """Workers that go round the lines and take the next that may be chosen."""
     run = Run(plan, workers)
     choices = []
@@ -55,14 +59,22 @@ def all_lines(plan, workers):
         choices.append((run.practice_worker(line), line))
         run.choose(*choices[-1])
         line = (line + 1) % plan.lines
-    return program_input(workers, choices)
+    return choices
+
+
+def whole_runs(plan):
+    """The order's name, W and its choices: two that end the run."""
+    # The paper's one-worker run: each place through all pipes, then the line that stops.
+    yield "one-worker", 1, one_worker_list(plan)
+    workers = min(plan.lines, 32)
+    yield "all-lines", workers, all_lines_list(plan, workers)
 
 
 def orders():
     """Each worker order's name, its plan's name and the program's input."""
     for name, plan in PLANS.items():
-        yield name + ".one-worker", name, one_worker(plan)
-        yield name + ".all-lines", name, all_lines(plan, min(plan.lines, 32))
+        for order, workers, choices in whole_runs(plan):
+            yield f"{name}.{order}", name, program_input(workers, choices)
     choices = by_practice(PLANS["overtaking"], 2, [0, 0, 0, 1, 1, 1, 1])
     yield "overtaking.overtakes", "overtaking", program_input(2, choices)
     yield "overtaking.more-workers", "overtaking", program_input(32, choices)
@@ -83,6 +95,50 @@ def journals():
     yield "backwards.mistake", "backwards", 2, mistaken, (WRONG, 2, 20)
 
 
+def commands():
+    """Each file of commands by its name: the orders over `rounding`, with its cells."""
+    for order, workers, choices in whole_runs(PLANS["rounding"]):
+        yield f"rounding.{order}", [
+            "plan examples/rounding.plan",
+            f"open {workers} {ROUNDING_PIPE} {BASE} examples/rounding.cells",
+            *(f"choose {worker} {line}" for worker, line in choices),
+            "ended",
+            "figures",
+            "sum",
+        ]
+
+
+def answers_to(lines):
+    """The console's answers, and that they end with the figures and the sum of the sheet."""
+    plan = PLANS["rounding"]
+    with tempfile.TemporaryDirectory() as room:
+        os.mkdir(os.path.join(room, "examples"))
+        for name, data in (("rounding.plan", encode(plan)), ("rounding.cells", cells_bytes(CELLS))):
+            with open(os.path.join(room, "examples", name), "wb") as out:
+                out.write(data)
+        text = console_output(room, lines)
+    figures = sheet_figures(plan, BASE, CELLS)
+    end = "E\nC %s\nT %d\n" % (" ".join(map(str, figures)), sum(CELLS))
+    assert text.endswith(end.encode("ascii"))
+    return text
+
+
+def table():
+    """The rows of the README's table: place, token, cell, T, published sum, figure."""
+    total = 0
+    for place, token in enumerate(plain_sheet(PLANS["rounding"]).order):
+        before, total = total, total + CELLS[token]
+        there = published(BASE, total)
+        yield place, token, CELLS[token], total, there, there - published(BASE, before)
+
+
+def check_readme():
+    rows = "".join("| %d | %d | %d | %d | %d | %d |\n" % row for row in table())
+    with open(os.path.join(FOLDER, "README.md"), encoding="utf-8") as file:
+        if rows not in file.read():
+            sys.exit("examples/README.md has another table than this:\n" + rows)
+
+
 def files():
     for name, plan in PLANS.items():
         data = encode(plan)
@@ -94,6 +150,11 @@ def files():
     for name, plan, workers, records, verdict in journals():
         assert mark(encode(PLANS[plan]), workers, records)[0] == verdict
         yield name + ".journal", journal_bytes(records)
+    yield "rounding.cells", cells_bytes(CELLS)
+    for name, lines in commands():
+        text = "".join(line + "\n" for line in lines).encode("ascii")
+        yield name + ".commands", text
+        yield name + ".answers", answers_to(text)
 
 
 def write():
@@ -108,6 +169,7 @@ def check():
         with open(os.path.join(FOLDER, name), "rb") as stored:
             if stored.read() != data:
                 sys.exit("examples/%s is not what the second implementation makes" % name)
+    check_readme()
     print("examples: %d files are as the second implementation makes them" % len(wanted))
 
 
