@@ -26,11 +26,12 @@ import examples
 import makers
 from cases import CASES
 from chance import Chance
-from console import LONGEST_LINE, Console, answers_to, console_output, lines_in
+from console import LONGEST_LINE, Console, answers_to, cells_bytes, console_output, lines_in
 from journal import FIELDS, RECORD, journal_bytes, journal_of, verdict_line
 from makers import raw_file, raw_record
 from plan_file import Plan, encode
 from program import line_of
+from rounding import LARGEST_CELL
 from run import Run
 from scripts import ANSWERS, Script, kind_of
 
@@ -105,8 +106,26 @@ def journals():
     return files
 
 
+def cells():
+    """Cells by name: for the 17 tokens of `figure.plan`, and for the 3 of `two words.plan`, right ones and others."""
+    files = {
+        "figure.cells": [2] * 17,
+        "three cells": [4, 9, 3],
+        "most.cells": [LARGEST_CELL] * 3,
+        "fewer.cells": [4, 9],
+        "more.cells": [4, 9, 3, 0],
+        "first-too-large.cells": [LARGEST_CELL + 1, 9, 3],
+        "last-too-large.cells": [4, 9, LARGEST_CELL + 1],
+        "high-byte.cells": [4, 9 + 2**24, 3],
+    }
+    files = {name: cells_bytes(numbers) for name, numbers in files.items()}
+    files["part.cells"] = files["three cells"] + b"\xff\xff\xff"
+    files["cut.cells"] = files["three cells"][:-1]
+    return files
+
+
 def stored_files():
-    return {**plans(), **journals()}
+    return {**plans(), **journals(), **cells()}
 
 
 def on_zeros():
@@ -197,15 +216,79 @@ def mark_lines():
     yield from ("offer 0 0", "choose 0 1")
 
 
+def with_figures(lines):
+    """Each command with the figures and the sum after it."""
+    for line in lines:
+        yield from (line, "figures", "sum")
+
+
+def rounding_lines():
+    """Runs with rounding in several orders, openings that are refused, and what is lent when."""
+    yield from with_figures(["plan two words.plan", "open 1 0 5 three cells"])
+    plan = CASES["h"].plan(pipes=[True, False], lines=2)
+    # Step by step; then the other base by two workers, by offers and takings.
+    yield from with_figures("choose %d %d" % choice for choice in makers.one_worker_list(plan))
+    yield from ("ended", "choose 0 0", "open 2 0 3 three cells")
+    run = Run(plan, 2)
+    for choice in examples.all_lines_list(plan, 2):
+        kind, line, *numbers, worker = run.choose(*choice)
+        # Another event first, which is refused.
+        other = ("F" if kind == "S" else "S", line, *(numbers or [0, 0, 0]), worker)
+        yield from ("offer %d %d" % choice, "take " + line_of(other), "sum")
+        yield "take " + line_of((kind, line, *numbers, worker))
+    yield from ("ended", "figures", "sum")
+    # The largest cells; bytes behind the last one; marks and plans in between.
+    yield from ("open 1 0 5 most.cells", "choose 0 0", "choose 0 0", "figures", "mark 2 complete.journal")
+    yield from ("plan figure.plan", "mark 2 complete.journal", "figures", "sum", "choose 0 0", "plan two words.plan")
+    yield from ("open 1 0 3 part.cells", "choose 0 0", "choose 0 0", "figures", "sum")
+    # None are lent without rounding, and after each refusal; the first that applies is said.
+    yield from ("open 1", "figures", "sum", "choose 0 0", "choose 0 0", "figures", "sum", "choose 0 1")
+    for refused in (
+        "0 0 5 three cells", "33 2 4 missing.cells", "65535 0 5 three cells",
+        "1 1 5 three cells", "1 2 4 missing.cells", "1 16 5 three cells", "1 256 5 three cells",
+        "1 65535 5 three cells", "1 0 4 missing.cells", "1 0 0 three cells", "1 0 1 three cells",
+        "1 0 259 three cells", "1 0 65535 three cells", "1 0 5 missing.cells", "1 0 5 fewer.cells",
+        "1 0 5 more.cells", "1 0 5 first-too-large.cells", "1 0 3 last-too-large.cells", "1 0 5 high-byte.cells",
+        "1 0 5 cut.cells", "1 0 5 figure.cells", "1 0 5  three cells", "1 0 5 three cells ", "1 0 5 .",
+        "1 0 5 three", "1 0 5 empty.plan",
+    ):
+        yield from ("open 1 0 5 three cells", "choose 0 0", "choose 0 0", "sum")
+        yield from (f"open {refused}", "figures", "sum", "ended", "choose 0 0", "offer 0 0", "take X 0 0")
+    for number in range(1, 8):
+        yield from (f"plan refused-{number}.plan", "open 33 16 4 missing.cells", "open 1 0 5 three cells", "figures")
+    # No tokens, no cells.
+    yield from ("plan none.plan", "open 1 0 5 missing.cells", "figures", "choose 0 0", "figures", "sum", "ended")
+    yield from ("open 1 0 5 three cells", "figures")
+    # Each pipe, in another order.
+    plan = CASES["b"].plan(pipes=[True] * 3, lines=3)
+    yield "plan figure.plan"
+    for workers in (1, 2, 3):
+        yield f"open {workers} {workers - 1} 5 figure.cells"
+        yield from ("choose %d %d" % choice for choice in examples.all_lines_list(plan, workers))
+        yield from ("ended", "figures", "sum")
+    # Some that are just commands, and some that are none, which change nothing.
+    yield from ("open 0001 00002 003 figure.cells", "figures")
+    yield from ("open 1 2 3 " + "./" * 2041 + "/figure.cells", "open 1 2 3 " + "./" * 2042 + "figure.cells")
+    yield from ("open 1 2 3 " + "a" * 4096, "open 1", "open 1 2", "open 1 2 3 figure.cells", "choose 0 0")
+    yield from ("open 1 ", "open 1 2", "open 1 2 ", "open 1 2 3", "open 1 2 3 ", "open 1 figure.cells")
+    yield from ("open 1 2 figure.cells", "open 1 2 figure.cells 3", "open  1 2 3 figure.cells")
+    yield from ("open 1  2 3 figure.cells", "open 1 2  3 figure.cells", "open x 2 3 figure.cells")
+    yield from ("open 1 x 3 figure.cells", "open 1 2 x figure.cells", "open 65537 2 3 figure.cells")
+    yield from ("open 1 65538 3 figure.cells", "open 1 2 65539 figure.cells", "open 1 -2 3 figure.cells")
+    yield from ("open " + "0" * 8168 + "1 2 3 figure.cells", "open " + "0" * 8169 + "1 2 3 figure.cells")
+    yield from ("figures ", " figures", "figures 0", "Figures", "figure", "sum ", " sum", "sum 0", "Sum", "su", "sums")
+    yield from ("figures", "sum", "choose 0 0", "open 1", "figures", "sum")
+
+
 def other_lines():
     """Lines that are no command, and some that just are."""
     yield from ("plan figure.plan", "open 1", "choose 0 0")
     yield from ("", " ", "end", "Ended", "ended ", " ended", "ended 0", "quit ", " quit")
-    yield from ("quit now", "figures", "draw 1")
+    yield from ("quit now", "draw 1")
     yield from ("plan", "plan ", "open", "open ", "open 1 ", "open  1", " open 1", "open 1 1")
     yield from ("open +1", "open -1", "open 1a")
     yield from ("open\t1", "open 65536", "open 00065536", "open 4294967297")
-    yield from ("open 18446744073709551617", "open 1 0 3 cells")
+    yield "open 18446744073709551617"
     yield from ("choose", "choose ", "choose 0", "choose 0 ", "choose  0", "choose 0  0")
     yield from ("choose 0 0 ", "choose 0 0 0")
     yield from ("choose 65536 0", "choose 0 65536", "choose a 0", "choose 0 a", "Choose 0 0")
@@ -231,7 +314,7 @@ def stored_input():
     """Every command, every kind of answer, and lines that are no command."""
     lines = [
         *on_zeros(), "mark 1 complete.journal", "open 1", *refused_lines(), *figure_lines(), *small_lines(),
-        *mark_lines(), *other_lines(),
+        *mark_lines(), *rounding_lines(), *other_lines(),
     ]
     return "\n".join(lines).encode("ascii")
 
