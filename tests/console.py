@@ -5,8 +5,8 @@
 
 --write makes the stored run of crates/console anew with the second implementation, --check
 fails if it differs. --program talks to the program, each answer awaited before the next
-command is sent, has it mark the journals of examples/ and the longest ones, and then hands it
-files of many commands. The last two it must answer quickly.
+command is sent, has it mark the journals of examples/ and the longest ones and answer the commands
+there, and then hands it files of many commands. The longest journals and these it must answer quickly.
 """
 
 import argparse
@@ -482,6 +482,17 @@ def example_marks(program):
         there.process.kill()
 
 
+def example_commands(program):
+    """The files of commands of examples/, as its README has them answered."""
+    for name, _ in examples.commands():
+        with open(ROOT / "examples" / f"{name}.commands", "rb") as stdin:
+            done = subprocess.run(
+                [program], cwd=ROOT, stdin=stdin, stdout=subprocess.PIPE, timeout=LONGEST_ANSWER, check=True
+            )
+        if done.stdout != (ROOT / "examples" / f"{name}.answers").read_bytes():
+            raise SystemExit(f"console: examples/{name}.commands is answered otherwise")
+
+
 def long_journals(records):
     """The longest journal, and more or less than that: by name, with the verdict on each."""
     whole = journal_bytes(records)
@@ -522,8 +533,15 @@ def long_marks(program):
 
 # Many commands in one file.
 
+def in_lines(lines):
+    return "".join(line + "\n" for line in lines).encode("ascii")
+
+
 def full_run(offers):
-    """A plan with 131,073 choices and the one-worker order of it, as choices or as offers and takings."""
+    """A plan with 131,073 choices and the one-worker order of it, as choices or as offers and takings.
+
+    Given as the files and the input.
+    """
     plan = Plan(makers.big_pipes(), 32, 4096)
     lines = ["plan full.plan", "open 1"]
     run = Run(plan, 1)
@@ -533,14 +551,21 @@ def full_run(offers):
             continue
         event = run.choose(worker, line)
         lines += [f"offer {worker} {line}", "take " + line_of(event)]
-    return encode(plan), "".join(line + "\n" for line in [*lines, "ended"]).encode("ascii")
+    return {"full.plan": encode(plan)}, in_lines([*lines, "ended"])
 
 
-def in_one_file(program, what, offers, times):
+def full_rounding():
+    """The same with the most and largest cells, on fewer pipes: T comes to its limit."""
+    plan = Plan([True, True], 32, 4096)
+    files = {"full.plan": encode(plan), "full.cells": cells_bytes([LARGEST_CELL] * plan.tokens)}
+    choices = [f"choose {worker} {line}" for worker, line in makers.one_worker_list(plan)]
+    return files, in_lines(["plan full.plan", "open 1 1 3 full.cells", *choices, "ended", "figures", "sum"])
+
+
+def in_one_file(program, what, files, data, times):
     """Compares a long input, and its pace with what is wanted."""
-    plan, data = full_run(offers)
     with tempfile.TemporaryDirectory() as folder:
-        put_files(folder, {"full.plan": plan, "given": data * times})
+        put_files(folder, {**files, "given": data * times})
         given, written = Path(folder) / "given", Path(folder) / "written"
         with given.open("rb") as stdin, written.open("wb") as stdout:
             begun = time.monotonic()
@@ -560,9 +585,11 @@ def run(program, seed):
     program = str(Path(program).resolve())
     talks(program, seed)
     example_marks(program)
+    example_commands(program)
     long_marks(program)
-    in_one_file(program, "choices", False, TIMES)
-    in_one_file(program, "offers and takings", True, TIMES // 2)
+    in_one_file(program, "choices", *full_run(False), TIMES)
+    in_one_file(program, "offers and takings", *full_run(True), TIMES // 2)
+    in_one_file(program, "choices with rounding", *full_rounding(), TIMES)
 
 
 def main():
