@@ -52,9 +52,9 @@ class RoundedRun(Run):
 
     def in_range(self):
         """False for numbers of rounding that no run has, in a state that was handed back."""
-        pipe, base, total = astuple(self.rounding)
-        if (pipe, base, total) == (0, 0, 0):
-            return True
+        pipe, base, total = self.rounding.pipe, self.rounding.base, self.rounding.sum
+        if base == 0:
+            return pipe == 0 and total == 0
         serial = pipe < self.pipes and self.serial[pipe]
         return serial and base in BASES and total <= LARGEST_SUM
 
