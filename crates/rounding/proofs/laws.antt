@@ -4,7 +4,5 @@ pub mod Bases
 pub mod Ranges
 -- so is the opening,
 pub mod Openings
--- and so is what a choice does;
+-- and so is what a choice does.
 pub mod Settlings
--- put together they are the whole choice.
-pub mod Joins

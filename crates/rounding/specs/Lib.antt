@@ -8,7 +8,5 @@ pub mod Roundings
 pub mod Runs
 -- its opening;
 pub mod Openings
--- what a choice does to it;
+-- and what a choice does to it.
 pub mod Settlings
--- and the whole choice.
-pub mod Joins

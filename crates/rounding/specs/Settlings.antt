@@ -13,6 +13,10 @@ use Rattle.rounding.specs.declared.settling.Passer.the-variants.{Nobody,
 use Rattle.rounding.specs.declared.settling.Settled.{Settled}
 use Rattle.rounding.specs.declared.settling.Settled.the-variants.{Done, Spoiled}
 
+-- whose cell passes when a token finishes a pipe: its own, if that is the pipe that rounds
+unfoldable pub passer : Rounding → ℕ → ℕ → Passing
+passer r p t = if (eqb (r .base) 0) NonePasses (if (eqb p (r .pipe)) (paper.Passes t) NonePasses)
+
 -- who passes
 abbrev pub passerOf : Passer → Passing
 passerOf Nobody = NonePasses

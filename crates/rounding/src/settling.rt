@@ -7,6 +7,7 @@ use crate::sums;
 use crate::sums::Passing;
 use crate::sums::SUM_MOST;
 use vocabulary::Answer;
+use vocabulary::Pipe;
 use vocabulary::Token;
 ghost use mathlib.Core.Path.{_≡_};
 ghost use lib.Dec.{leb};
@@ -14,7 +15,7 @@ ghost use lib.ListN.{getD, set};
 ghost use Rattle.rules.specs.Answers.{answerOf};
 ghost use Rattle.rules.specs.Rounding.{sumMost, sumAfter, passing as passingBy};
 ghost use Rattle.rounding.specs.Roundings.{roundingOf};
-ghost use Rattle.rounding.specs.Settlings.{passerOf, isKnown, settledOf, settleBy};
+ghost use Rattle.rounding.specs.Settlings.{passer, passerOf, isKnown, settledOf, settleBy};
 
 // The token whose cell passes by a choice, if one does.
 pub enum Passer {
@@ -78,16 +79,18 @@ fn put(figures: &mut [u32], at: usize, figure: u32)
     }
 }
 
-// Whether T stays within its limit, whoever passes by an answer.
-pub fn stays(r: Rounding, answer: Answer, cells: &[u32]) -> bool
-    ensures { λ b. ⌜ b ≡ leb (sumAfter (roundingOf r) (now (cells .entry)) (passingBy (roundingOf r) (answerOf answer))) sumMost ⌝ }
+// Whether T stays within its limit when a token finishes a pipe.
+pub fn stays(r: Rounding, pipe: Pipe, token: Token, cells: &[u32]) -> bool
+    ensures { λ b. ⌜ b ≡ leb (sumAfter (roundingOf r) (now (cells .entry)) (passer (roundingOf r) (pipe .0) (token .0))) sumMost ⌝ }
 {
-    let who = who_passes(r, answer);
-    let Passer::Passes(token) = who else {
-        return r.sum <= SUM_MOST;
-    };
     if SUM_MOST < r.sum {
         return false;
+    }
+    if r.base == 0 {
+        return true;
+    }
+    if pipe.0 != r.pipe.0 {
+        return true;
     }
     let cell = cell_at(cells, token.0 as usize);
     cell <= SUM_MOST - r.sum

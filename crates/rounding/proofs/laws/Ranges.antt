@@ -1,5 +1,5 @@
 -- The range of a rounding, case by case.
-use mathlib.Core.Path.{_≡_}
+use mathlib.Core.Path.{_≡_, sym}
 use mathlib.Core.Bool.{Bool, true, false}
 use mathlib.Core.List.{List}
 use Prim.Native.Nat.{ℕ, _≤_}
@@ -7,7 +7,8 @@ use lib.Dec.{leb, eqb}
 use borrow.Author.Tests.{le-leb, eq-eqb, ne-eqb}
 use Rattle.rules.specs.Rounding.{sumMost, isBase, isRoundingPipe, Rounding, roundingSound}
 use Rattle.rounding.specs.Roundings.{roundingFits}
-use Rattle.rules.proofs.lists.Tests.{if-eta}
+use Rattle.rounding.specs.Settlings.{isKnown}
+use Rattle.rules.proofs.lists.Tests.{same, other, sameAs, holds, fails, see, never, if-eta}
 
 module _ (pipes : ℕ) (few : pipes ≤ 16) (serial : List Bool) (r : Rounding) where
   -- without rounding
@@ -32,3 +33,11 @@ module _ (pipes : ℕ) (few : pipes ≤ 16) (serial : List Bool) (r : Rounding) 
     pub most-tells : isBase (r .base) ≡ true → isRoundingPipe pipes serial (r .pipe) ≡ true → leb (r .sum) sumMost ≡ roundingFits pipes serial r
     unfolding roundingSound roundingFits
     most-tells e p = rw (le-leb pipes 16 few, ne-eqb (r .base) 0 b, e, p, if-eta, if-eta)
+
+-- a rounding within its ranges has a known base
+pub sound-known : (pipes : ℕ) (serial : List Bool) (r : Rounding) → roundingSound pipes serial r ≡ true → isKnown (r .base) ≡ true
+unfolding roundingSound isKnown
+sound-known pipes serial r h = elim (sameAs (r .base) 0) [
+  | same e t ↦ rw t
+  | other n t ↦ elim (see (isBase (r .base))) [ holds b ↦ rw (t, b) | fails b ↦ absurd (never (sym (rw (t, b) at h))) ]
+]

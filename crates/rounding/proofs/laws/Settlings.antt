@@ -1,5 +1,5 @@
 -- Who passes by an answer, and what a choice does to T and the figures, case by case.
-use mathlib.Core.Path.{_≡_, sym, ap, _∙_}
+use mathlib.Core.Path.{_≡_, refl, sym, ap, _∙_}
 use mathlib.Core.Bool.{Bool, true, false}
 use mathlib.Core.List.{List}
 use Prim.Native.Nat.{ℕ, _+_, _-_, _≤_, _<_}
@@ -14,7 +14,7 @@ use Rattle.rules.proofs.lists.Tests.{same, other, sameAs, holds, fails, see, ne
 use Rattle.rules.proofs.rounding.Passers.{nobody, someone, seen, passing-some}
 use Rattle.rounding.specs.Bases.{baseOf, baseIn}
 use Rattle.rounding.specs.Passings.{passOf}
-use Rattle.rounding.specs.Settlings.{isKnown, Settling, Spoils, Leaves, settleBy}
+use Rattle.rounding.specs.Settlings.{passer, isKnown, Settling, Spoils, Leaves, settleBy}
 use Rattle.rounding.specs.declared.base.Base.{Base}
 use Rattle.rounding.specs.declared.base.Base.the-variants.{Three, Five}
 use Rattle.rounding.specs.declared.base.BaseNumber.the-variants.{Known, Unknown}
@@ -144,17 +144,31 @@ room sum cell h = elim (see (leb (sum + cell) sumMost)) [
   | fails q ↦ rw (q, lt-leb cell (sumMost - sum) (omega (arith, leb-false (sum + cell) sumMost q)))
 ]
 
-module _ (r : Rounding) (a : Answer) (cells : List ℕ) where
-  -- T after the answer is within its limit
+module _ (r : Rounding) (p t : ℕ) (cells : List ℕ) where
+  -- T is within its limit after a token has finished a pipe
   abbrev within : Bool
-  within = leb (sumAfter r cells (passing r a)) sumMost
+  within = leb (sumAfter r cells (passer r p t)) sumMost
 
-  pub stays-none : NonePasses ≡ passing r a → leb (r .sum) sumMost ≡ within
-  stays-none e = rw (← e)
+  pub stays-past : sumMost < r .sum → false ≡ within
+  stays-past m = elim (seen (passer r p t)) [
+    | nobody e ↦ rw (e, lt-leb (r .sum) sumMost m)
+    | someone q e ↦ rw (e, lt-leb (r .sum + getD cells q 0) sumMost (omega arith))
+  ]
 
-  module _ (t : ℕ) (e : paper.Passes t ≡ passing r a) where
-    pub stays-past : sumMost < r .sum → false ≡ within
-    stays-past m = rw (← e, lt-leb (r .sum + getD cells t 0) sumMost (omega arith))
+  module _ (m : r .sum ≤ sumMost) where
+    pub stays-without : r .base ≡ 0 → true ≡ within
+    unfolding passer
+    stays-without b = rw (eq-eqb (r .base) 0 b, le-leb (r .sum) sumMost m)
 
-    pub stays-some : r .sum ≤ sumMost → {cell : ℕ} → cell ≡ getD cells t 0 → leb cell (sumMost - r .sum) ≡ within
-    stays-some m {cell} q = rw (← e, ← q) (room (r .sum) cell m)
+    pub stays-elsewhere : (r .base ≡ 0 → ⊥) → (p ≡ r .pipe → ⊥) → true ≡ within
+    unfolding passer
+    stays-elsewhere b e = rw (ne-eqb (r .base) 0 b, ne-eqb p (r .pipe) e, le-leb (r .sum) sumMost m)
+
+    pub stays-some : (r .base ≡ 0 → ⊥) → p ≡ r .pipe → {cell : ℕ} → cell ≡ getD cells t 0 → leb cell (sumMost - r .sum) ≡ within
+    unfolding passer
+    stays-some b e {cell} q = rw (ne-eqb (r .base) 0 b, eq-eqb p (r .pipe) e, ← q) (room (r .sum) cell m)
+
+-- who finishes a pipe by an answer passes if the token that finished it does
+pub passing-finished : (r : Rounding) (l p t k w : ℕ) → passing r (Finished l p t k w) ≡ passer r p t
+unfolding passing finisher passer
+passing-finished r l p t k w = refl

@@ -1,13 +1,9 @@
 -- `settling::settle` meets its contract, case by case.
-use mathlib.Core.Path.{_≡_, sym, ap, _∙_}
-use mathlib.Core.List.{List}
-use Prim.Native.Nat.{ℕ}
+use mathlib.Core.Path.{sym, ap, _∙_}
 use native.Mathlib.Omega.{arith}
 use borrow.Author.Needs.{needs}
 use borrow.Author.Tests.{not-true, not-false}
-use Rattle.rounding.specs.Bases.{baseOf}
-use Rattle.rounding.specs.Passings.{passOf}
-use Rattle.rounding.specs.Settlings.{passerOf, Leaves}
+use Rattle.rounding.specs.Settlings.{passerOf}
 use Rattle.rounding.proofs.laws.Settlings as laws
 use Rattle.rounding.proofs.settling.settle.Statement.{statement}
 use Rattle.rounding.proofs.settling.settle.Tie as tie

@@ -1,11 +1,7 @@
 -- `settling::who_passes` meets its contract, case by case.
-use mathlib.Core.Path.{sym, ap, _∙_}
 use native.Mathlib.Omega.{arith}
 use borrow.Author.Needs.{needs}
-use Rattle.vocabulary.specs.declared.answer.Answer.{Answer}
 use Rattle.rules.specs.Answers.{answerOf}
-use Rattle.rules.specs.Rounding.{passing}
-use Rattle.rounding.specs.Roundings.{roundingOf}
 use Rattle.rounding.proofs.laws.Settlings as laws
 use Rattle.rounding.proofs.settling.who_passes.Statement.{statement}
 use Rattle.rounding.proofs.settling.who_passes.Tie as tie
