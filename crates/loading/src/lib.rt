@@ -3,20 +3,20 @@ mod layout;
 
 ghost use mathlib.Core.Path.{_≡_};
 ghost use Rattle.plan.specs.Reading.{readOf, readingOf};
-ghost use Rattle.plan.specs.declared.Reading.{Reading};
 ghost use Rattle.loading.specs.Loading.{loadOf};
-use plan::Header;
 use plan::Reading;
 use state::MOST_WORKERS;
 use tables::LENT;
 use vocabulary::Refusal;
 
-// Loads a plan that was read.
-fn load_plan(file: &[u8], h: Header, workers: u16, mem: &mut [u16]) -> Reading
-    requires { ⌜ readingOf (readOf (now file)) ≡ Reading.Accepted h ⌝ }
-    ensures answer { λ r. ⌜ r ≡ readingOf (loadOf (now (file .entry)) workers (now (mem .entry)) .0) ⌝ }
-    ensures memory { λ _. ⌜ now (mem .exit) ≡ loadOf (now (file .entry)) workers (now (mem .entry)) .1 ⌝ }
+// What loading a plan from its file answers: refused with 1 to 9, or accepted. Nothing is written.
+pub fn preview(file: &[u8], workers: u16, mem: &[u16]) -> Reading
+    ensures { λ r. ⌜ r ≡ readingOf (loadOf (now (file .entry)) workers (now (mem .entry)) .0) ⌝ }
 {
+    let reading = plan::read(file);
+    let Reading::Accepted(_) = reading else {
+        return reading;
+    };
     if workers < 1 {
         return Reading::Refused(Refusal::Workers);
     }
@@ -26,9 +26,7 @@ fn load_plan(file: &[u8], h: Header, workers: u16, mem: &mut [u16]) -> Reading
     if mem.len() < LENT {
         return Reading::Refused(Refusal::Memory);
     }
-    let start = h.start as usize;
-    layout::lay_out(&file[0..start], mem);
-    Reading::Accepted(h)
+    reading
 }
 
 // Loads a plan from its file for so many workers: refused with 1 to 9, or laid out in the lent memory.
@@ -36,8 +34,11 @@ pub fn load(file: &[u8], workers: u16, mem: &mut [u16]) -> Reading
     ensures answer { λ r. ⌜ r ≡ readingOf (loadOf (now (file .entry)) workers (now (mem .entry)) .0) ⌝ }
     ensures memory { λ _. ⌜ now (mem .exit) ≡ loadOf (now (file .entry)) workers (now (mem .entry)) .1 ⌝ }
 {
-    match plan::read(file) {
-        Reading::Refused(r) => Reading::Refused(r),
-        Reading::Accepted(header) => load_plan(file, header, workers, mem),
-    }
+    let reading = preview(file, workers, mem);
+    let Reading::Accepted(h) = reading else {
+        return reading;
+    };
+    let start = h.start as usize;
+    layout::lay_out(&file[0..start], mem);
+    Reading::Accepted(h)
 }

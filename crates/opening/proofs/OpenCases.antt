@@ -36,9 +36,5 @@ module _ (file : List ℕ) (workers : ℕ) (m : List ℕ) {loaded : Reading} (to
   unfolding openedBy
   refuses why e r-is = rw (refused-read (loadOf file workers m .0) why (sym told ∙ e)) r-is
 
-  -- the plan was read
-  pub was-read : {h : Header} → loaded ≡ Reading.Accepted h → readingOf (readOf file) ≡ Reading.Accepted h
-  was-read {h} e = ap readingOf (sym (loaded-read (readOf file) workers m h (sym told ∙ e))) ∙ sym told ∙ e
-
   pub opens : {r : Opened} {h : Header} → loaded ≡ Reading.Accepted h → r ≡ openedBy (readOf file) workers m → r ≡ openOf file workers m .0
   opens {h = h} e r-is = rw (loaded-read (readOf file) workers m h (sym told ∙ e)) r-is

@@ -10,48 +10,49 @@ use Rattle.rules.specs.Lists.{within}
 use Rattle.vocabulary.specs.declared.refusal.Refusal.{Refusal}
 use Rattle.rules.proofs.lists.Tests.{by-test}
 use Rattle.rules.specs.WholeRuns.{WorkersInRange}
-use Rattle.plan.specs.Plan.{Plan}
+use Rattle.plan.specs.Plan.{Plan, Record}
 use Rattle.plan.specs.Records.{recordsIn}
 use Rattle.plan.specs.Reading.{Outcome, accepted, refused, readOf, readingOf}
 use Rattle.plan.specs.declared.trailer.Header.{Header}
 use Rattle.plan.specs.declared.Reading.{Reading}
 use Rattle.loading.specs.Layout.{laidOut}
 use Rattle.loading.specs.Loading.{loadAs, loadOf}
-use Rattle.loading.proofs.loading.PlanRead.{PlanRead, refused-read}
+use Rattle.loading.proofs.loading.PlanRead.{PlanRead, accepted-read, refused-read}
 
--- what is returned and left in memory is what loading must give
-abbrev pub Gives : List ℕ → ℕ → List ℕ → Reading → List ℕ → Type 0
-Gives file workers m r m′ = (r ≡ readingOf (loadOf file workers m .0)) × (m′ ≡ loadOf file workers m .1)
+-- with 8 and 9 passed the answer is what was read
+as-read : (o : Outcome) (workers : ℕ) (m : List ℕ) → 1 ≤ workers → workers ≤ 32 → 32768 ≤ length m → loadAs o workers m .0 ≡ o
+unfolding loadAs within
+as-read (refused why) workers m some most enough = refl
+as-read (accepted p) workers m some most enough = rw (le-leb 1 workers some, le-leb workers 32 most, le-leb 32768 (length m) enough)
 
-module _ (file : List ℕ) (workers : ℕ) (m : List ℕ) where
+-- what is answered of a file that was read
+module _ (file : List ℕ) (workers : ℕ) (m : List ℕ) {r : Reading} (told : r ≡ readingOf (readOf file)) where
   -- 1 to 7
-  pub plan-refused : (why : Refusal) → readingOf (readOf file) ≡ Reading.Refused why → Gives file workers m (Reading.Refused why) m
+  pub plan-refused : (why : Refusal) → r ≡ Reading.Refused why → r ≡ readingOf (loadOf file workers m .0)
   unfolding loadAs
-  plan-refused why e = rw (refused-read (readOf file) why e) (refl, refl)
+  plan-refused why e = rw (refused-read (readOf file) why (sym told ∙ e)) e
 
-  module _ {h : Header} (read : PlanRead file h) where
+  module _ (h : Header) (e : r ≡ Reading.Accepted h) where
     -- 8
-    pub no-worker : workers < 1 → Gives file workers m (Reading.Refused Refusal.Workers) m
+    pub no-worker : workers < 1 → Reading.Refused Refusal.Workers ≡ readingOf (loadOf file workers m .0)
     unfolding loadAs within
-    no-worker none = rw (read .reads, lt-leb 1 workers none) (refl, refl)
+    no-worker none = rw (accepted-read (readOf file) h (sym told ∙ e) .1, lt-leb 1 workers none)
 
     module _ (some : 1 ≤ workers) where
-      pub many-workers : 32 < workers → Gives file workers m (Reading.Refused Refusal.Workers) m
+      pub many-workers : 32 < workers → Reading.Refused Refusal.Workers ≡ readingOf (loadOf file workers m .0)
       unfolding loadAs within
-      many-workers many = rw (read .reads, le-leb 1 workers some, lt-leb workers 32 many) (refl, refl)
+      many-workers many = rw (accepted-read (readOf file) h (sym told ∙ e) .1, le-leb 1 workers some, lt-leb workers 32 many)
 
       module _ (most : workers ≤ 32) where
         -- 9
-        pub little-memory : length m < 32768 → Gives file workers m (Reading.Refused Refusal.Memory) m
+        pub little-memory : length m < 32768 → Reading.Refused Refusal.Memory ≡ readingOf (loadOf file workers m .0)
         unfolding loadAs within
-        little-memory little = rw (read .reads, le-leb 1 workers some, le-leb workers 32 most, lt-leb 32768 (length m) little) (refl, refl)
+        little-memory little =
+            rw (accepted-read (readOf file) h (sym told ∙ e) .1, le-leb 1 workers some, le-leb workers 32 most, lt-leb 32768 (length m) little)
 
         -- else the plan
-        pub loads : 32768 ≤ length m → {m′ : List ℕ} → m′ ≡ laidOut (recordsIn (take (h .start) file)) m → Gives file workers m (Reading.Accepted h) m′
-        unfolding loadAs within
-        loads enough m-is =
-            rw (read .reads, le-leb 1 workers some, le-leb workers 32 most, le-leb 32768 (length m) enough)
-            (ap Reading.Accepted (sym (read .header)), m-is ∙ rw (read .records))
+        pub accepts : 32768 ≤ length m → r ≡ readingOf (loadOf file workers m .0)
+        accepts enough = told ∙ ap readingOf (sym (as-read (readOf file) workers m some most enough))
 
 -- what loading gives: a refusal, with the memory as it was, or the plan laid out
 pub data Loading (o : Outcome) (workers : ℕ) (m : List ℕ) : Type 0 where
@@ -78,3 +79,31 @@ loaded-read o workers m h e = elim (loading o workers m) [
   | turned-down why is ↦ let q = rw is at e in let z : _≡_ {A = ℕ} 0 1 = cc in absurd (omega arith)
   | laid p o-is manned enough is ↦ ap (λ x. x .0) is ∙ sym o-is
 ]
+
+-- what is left in memory where this is answered
+module _ (file : List ℕ) (workers : ℕ) (m : List ℕ) {r : Reading} (told : r ≡ readingOf (loadOf file workers m .0)) where
+  pub keeps : (why : Refusal) → r ≡ Reading.Refused why → m ≡ loadOf file workers m .1
+  keeps why e = elim (loading (readOf file) workers m) [
+    | turned-down was is ↦ rw is
+    | laid p o-is manned enough is ↦ let q = rw is at (sym told ∙ e) in let z : _≡_ {A = ℕ} 0 1 = cc in absurd (omega arith)
+  ]
+
+  module _ {h : Header} (e : r ≡ Reading.Accepted h) where
+    -- the plan was read, and there is memory for it
+    pub was-read : readingOf (readOf file) ≡ Reading.Accepted h
+    was-read = ap readingOf (sym (loaded-read (readOf file) workers m h (sym told ∙ e))) ∙ sym told ∙ e
+
+    pub has-room : 32768 ≤ length m
+    has-room = elim (loading (readOf file) workers m) [
+      | turned-down why is ↦ let q = rw is at (sym told ∙ e) in let z : _≡_ {A = ℕ} 0 1 = cc in absurd (omega arith)
+      | laid p o-is manned enough is ↦ enough
+    ]
+
+    pub loads : PlanRead file h → {m′ : List ℕ} → m′ ≡ laidOut (recordsIn (take (h .start) file)) m → m′ ≡ loadOf file workers m .1
+    loads read m-is = elim (loading (readOf file) workers m) [
+      | turned-down why is ↦ let q = rw is at (sym told ∙ e) in let z : _≡_ {A = ℕ} 0 1 = cc in absurd (omega arith)
+      | laid p o-is manned enough is ↦
+          let same : accepted (read .plan) ≡ accepted p = sym (read .reads) ∙ o-is in
+          let plan-is : read .plan ≡ p = cc in
+          m-is ∙ rw is (ap (λ (rs : List Record). laidOut rs m) (read .records ∙ ap (λ (p : Plan). p .records) plan-is))
+    ]

@@ -109,6 +109,11 @@ plan-read file bs header e =
     let read : readOf (encode p) ≡ accepted p = ap readOf (sym file-is) ∙ read-exactly file bs p .1 (v, file-is) in
     subst (λ f. PlanRead f header) (sym file-is) (subst (PlanRead (encode p)) header-is (plan-read-encoded p v read))
 
+-- a file that was accepted is that of a plan
+pub accepted-read : (o : Outcome) (h : Header) → readingOf o ≡ Reading.Accepted h → (p : Plan) × (o ≡ accepted p)
+accepted-read (accepted p) h e = (p, refl)
+accepted-read (refused r) h e = let z : _≡_ {A = ℕ} 0 1 = cc in absurd (omega arith)
+
 -- a file that was refused
 pub refused-read : (o : Outcome) (why : Refusal) → readingOf o ≡ Reading.Refused why → o ≡ refused why
 refused-read (accepted p) why e = let z : _≡_ {A = ℕ} 0 1 = cc in absurd (omega arith)

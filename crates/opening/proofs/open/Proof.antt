@@ -1,6 +1,7 @@
 -- `beginning::open` meets its contract.
 use borrow.Author.Needs.{needs}
-use Rattle.opening.proofs.OpenCases.{refuses, was-read, opens}
+use Rattle.loading.proofs.loading.LoadCases.{was-read}
+use Rattle.opening.proofs.OpenCases.{refuses, opens}
 use Rattle.opening.proofs.open.Statement.{statement}
 use Rattle.opening.proofs.open.Tie as tie
 
