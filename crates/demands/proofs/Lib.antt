@@ -6,8 +6,6 @@ pub mod ValidPlans
 pub mod Events
 -- every run of a plan is as the demands say;
 pub mod Demands
--- and every run with rounding as the rounding paper says;
-pub mod Rounding
 -- when an opening is accepted, and what it leaves then;
 pub mod Opens
 -- a refused choice leaves state and memory as they were;

@@ -20,8 +20,9 @@ refusalAt n =
     if (eqb n 1) Refusal.FileSize (if (eqb n 2) Refusal.PartSizes (if (eqb n 3) Refusal.Limits (if (eqb n 4) Refusal.Pipes
     (if (eqb n 5) Refusal.RecordLayout (if (eqb n 6) Refusal.ListsItself (if (eqb n 7) Refusal.TotalCount (if (eqb n 8) Refusal.Workers
     (if (eqb n 9) Refusal.Memory (if (eqb n 10) Refusal.NoLine (if (eqb n 11) Refusal.Ended (if (eqb n 12) Refusal.Early
-    (if (eqb n 13) Refusal.WorkerBusy (if (eqb n 14) Refusal.Spoiled (if (eqb n 19) Refusal.OtherEvent (if (eqb n 20) Refusal.JournalDiffers
-    Refusal.WrongWorker)))))))))))))))
+    (if (eqb n 13) Refusal.WorkerBusy (if (eqb n 14) Refusal.Spoiled (if (eqb n 16) Refusal.RoundingPipe (if (eqb n 17) Refusal.Base
+    (if (eqb n 18) Refusal.Lent (if (eqb n 19) Refusal.OtherEvent (if (eqb n 20) Refusal.JournalDiffers
+    Refusal.WrongWorker))))))))))))))))))
 
 pub number-back : (r : Refusal) → refusalAt (numberOf r) ≡ r
 unfolding refusalAt
@@ -39,6 +40,9 @@ number-back Refusal.Ended = refl
 number-back Refusal.Early = refl
 number-back Refusal.WorkerBusy = refl
 number-back Refusal.Spoiled = refl
+number-back Refusal.RoundingPipe = refl
+number-back Refusal.Base = refl
+number-back Refusal.Lent = refl
 number-back Refusal.OtherEvent = refl
 number-back Refusal.JournalDiffers = refl
 number-back Refusal.WrongWorker = refl

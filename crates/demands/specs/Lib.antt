@@ -1,7 +1,5 @@
 -- Runs of a plan. Reading order: the demands on every run;
 pub mod Demands
--- and on every run with rounding;
-pub mod Rounding
 -- an accepted opening, and what follows for every run from it;
 pub mod OpenedRun
 -- runs of the code, with what the demands say of them;

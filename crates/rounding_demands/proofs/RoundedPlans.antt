@@ -9,10 +9,10 @@ use Rattle.rules.proofs.rounding.RoundedRuns.{rounded-run}
 use Rattle.rules.proofs.rounding.CarriedRuns.{carried-run, same-figures}
 use Rattle.plan.specs.Plan.{Plan, Valid}
 use Rattle.tables.specs.State.{State}
 use Rattle.demands.specs.Demands.{numbers, endState}
-use Rattle.demands.specs.Rounding.{RoundedDemands}
+use Rattle.rounding_demands.specs.RoundedPlans.{RoundedDemands}
 use Rattle.demands.proofs.ValidPlans.{ranged, others}
 use Rattle.demands.proofs.Demands.{memory-sheet, demands}
 
 pub rounded-demands : (p : Plan) → Valid p → RoundedDemands p
 rounded-demands p valid = record {

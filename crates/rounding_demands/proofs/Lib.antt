@@ -1,0 +1,8 @@
+-- Every run of a plan with rounding is as the rounding paper says;
+pub mod RoundedPlans
+-- what the code returns, to the last number;
+pub mod OneRun
+-- so is every session of the code;
+pub mod CodeRounding
+-- and so are its figures.
+pub mod CodeFigures
