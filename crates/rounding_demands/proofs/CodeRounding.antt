@@ -1,7 +1,7 @@
 -- Every session of the code with rounding is as the rounding paper says, and a refused opening changes nothing.
 use mathlib.Core.Path.{_≡_, refl, sym, ap, subst, _∙_}
 use mathlib.Core.Bool.{true}
-use mathlib.Core.List.{List, [], _∷_, map}
+use mathlib.Core.List.{List, _∷_, map}
 use Prim.Native.Nat.{ℕ, _≤_}
 use lib.ListN.{length}
 use Rattle.vocabulary.specs.declared.answer.Answer.{Answer}
@@ -10,14 +10,13 @@ use Rattle.rules.specs.Lists.{within}
 use Rattle.rules.specs.RunState.{Machine}
 use Rattle.rules.specs.Ranges.{sound, numbersSound}
 use Rattle.rules.specs.Choices as rules
-use Rattle.rules.specs.Choices.{Choice, Refused, choose, chooseBy, ended, opened}
+use Rattle.rules.specs.Choices.{Choice, Refused, choose, ended, opened}
 use Rattle.rules.specs.Answers.{answerOf}
 use Rattle.rules.specs.WholeRuns.{WorkersInRange}
 use Rattle.rules.specs.MoreWorkers.{withoutRefusals}
 use Rattle.rules.specs.Rounding as paper
 use Rattle.rules.specs.Rounding.{noRounding, Lending, RoundedChosen, chooseRounded, answersRounded, followRounded, roundingSound, roundedWith, refuseWith}
 use Rattle.rules.specs.RoundedRuns.{AtOpening, without, openedRun, roundedEvents, roundedEnd, roundedChoices, RoundedRun}
-use Rattle.rules.proofs.rounding.RoundedRuns.{rounded-run}
 use Rattle.fields.specs.Bytes.{Bytes}
 use Rattle.plan.specs.Plan.{Plan, Valid, encode}
 use Rattle.plan.proofs.Theorem.{one-plan}
@@ -31,23 +30,21 @@ use Rattle.opening.specs.declared.Opening.{Opening}
 use Rattle.opening.specs.Opened.{stateOf, openOf, refusedWith}
 use Rattle.rounding.specs.declared.run.Run.{Run}
 use Rattle.rounding.specs.Roundings.{roundingOf}
-use Rattle.rounding.specs.Runs.{runOf, withoutRounding}
+use Rattle.rounding.specs.Runs.{runOf}
 use Rattle.rounded_opening.specs.declared.Opened.{Opened}
 use Rattle.rounded_opening.specs.RoundedOpenings.{RoundedOpening, openRoundedOf, refusedRounded}
 use Rattle.rounded_opening.proofs.Opens.{opened-rounded, refused-rounded}
 use Rattle.rounded.specs.declared.Chosen.{Chosen}
 use Rattle.rounded.specs.Runs.{chosenOf}
-use Rattle.demands.specs.Demands.{Shows, Demands, begun, told, left, endState, order}
-use Rattle.demands.specs.CodeRuns.{OpenCall, Session, SameEnd}
+use Rattle.demands.specs.Demands.{Shows, begun, told, left, endState, order}
+use Rattle.demands.specs.CodeRuns.{Session, SameEnd}
 use Rattle.demands.specs.CodeRuns as base
-use Rattle.demands.proofs.ValidPlans.{ranged}
-use Rattle.demands.proofs.Demands.{memory-sheet, demands}
+use Rattle.demands.proofs.Demands.{demands}
 use Rattle.demands.proofs.Opens.{opened-run}
 use Rattle.demands.proofs.Unchanged.{same-state}
 use Rattle.demands.proofs.CodeRuns.{left-sound, run-of}
-use Rattle.rounding_demands.specs.CodeRounding.{ChooseRoundedCall, OpenRoundedCall, RoundedCalls, no-call, call, RoundedOpens, plainly, rounding}
+use Rattle.rounding_demands.specs.CodeRounding.{OpenRoundedCall, RoundedCalls, no-call, call, RoundedOpens, plainly, rounding}
 use Rattle.rounding_demands.specs.CodeRounding.{RoundedSession, eventsOf, acceptedIn, CodeRounded, RefusedRounding}
-use Rattle.rounding_demands.specs.RoundedPlans.{RoundedDemands}
 use Rattle.rounding_demands.proofs.RoundedPlans.{rounded-demands}
 use Rattle.rounding_demands.proofs.OneRun.{same-return}
 

@@ -4,7 +4,6 @@ use mathlib.Core.List.{List}
 use Prim.Native.Nat.{ℕ}
 use Rattle.rules.specs.Rounding as paper
 use Rattle.rules.specs.Rounding.{RoundedChosen}
-use Rattle.rules.specs.RunState.{Machine}
 use Rattle.tables.specs.State as tables
 use Rattle.rounding.specs.declared.Rounding.{Rounding}
 use Rattle.rounding.specs.declared.run.Run.{Run}

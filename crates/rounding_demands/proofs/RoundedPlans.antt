@@ -1,14 +1,10 @@
 -- Every run of a valid plan with rounding, opened in lent memory, is as the rounding paper says.
-use mathlib.Core.Path.{_≡_, sym, ap, _∙_}
-use mathlib.Core.List.{List}
-use Prim.Native.Nat.{ℕ}
-use Rattle.rules.specs.RunState.{Machine}
+use mathlib.Core.Path.{sym, ap, _∙_}
 use Rattle.rules.specs.Choices.{ended}
 use Rattle.rules.proofs.sheet.PlainSheet.{sheet-distinct}
 use Rattle.rules.proofs.rounding.RoundedRuns.{rounded-run}
 use Rattle.rules.proofs.rounding.CarriedRuns.{carried-run, same-figures}
 use Rattle.plan.specs.Plan.{Plan, Valid}
-use Rattle.tables.specs.State.{State}
 use Rattle.demands.specs.Demands.{numbers, endState}
 use Rattle.rounding_demands.specs.RoundedPlans.{RoundedDemands}
 use Rattle.demands.proofs.ValidPlans.{ranged, others}

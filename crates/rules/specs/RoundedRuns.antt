@@ -162,6 +162,8 @@ module _ {X : Type 0} (S : Source X) (plan : Pipeline) (workers : ℕ) (x : X) (
       -- T is the sum of the cells of the tokens that passed, and their figures add up to the published sum
       pub sum-is : roundedEnd carriedLendings .rounding .sum ≡ cellsBefore order passed
       pub published-is : sumOf (map (λ t. getD carriedFigures t 0) (take passed order)) ≡ published (r .base) (cellsBefore order passed)
+      -- and so do all figures together
+      pub total : sumOf carriedFigures ≡ published (r .base) (cellsBefore order passed)
       -- the figure of the token at place k, once it has passed
       pub figure-is : (k : ℕ) → k < passed →
           getD carriedFigures (getD order k 0) 0 ≡ published (r .base) (cellsBefore order (suc k)) - published (r .base) (cellsBefore order k)

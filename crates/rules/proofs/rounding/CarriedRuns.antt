@@ -20,7 +20,7 @@ use Rattle.rules.proofs.lists.Counting.{times-append}
 use Rattle.rules.proofs.lists.Places.{place-of}
 use Rattle.rules.proofs.rounding.Sums.{IsBase, three, five}
 use Rattle.rules.proofs.rounding.Plain.{as-plain}
-use Rattle.rules.proofs.rounding.Figures.{putAll, length-put, put-else, put-at, figures-put, cells-same}
+use Rattle.rules.proofs.rounding.Figures.{putAll, length-put, put-else, put-sum, put-at, figures-put, cells-same}
 use Rattle.rules.proofs.rounding.RoundedRuns.{no-base, some-base, based, rounded-run}
 
 -- one number more of a list
@@ -59,6 +59,12 @@ map-at : (f : ℕ → ℕ) (l : List ℕ) (i : ℕ) → i < length l → getD (m
 map-at f [] i h = absurd (omega arith)
 map-at f (n ∷ l) zero h = refl
 map-at f (n ∷ l) (suc i) h = map-at f l i (omega arith)
+
+-- zeros together are 0
+sum-zeros : (n : ℕ) → sumOf (replicate n 0) ≡ 0
+unfolding sumOf
+sum-zeros zero = refl
+sum-zeros (suc n) = omega (arith, sum-zeros n)
 
 -- without rounding there are no figures
 no-figures : {plan : Pipeline} {r : Rounding} → AtOpening plan r → isBase (r .base) ≡ false → lentCount (plan .tokens) r ≡ 0
@@ -131,6 +137,12 @@ module _ {X : Type 0} {S : Source X} {plan : Pipeline} (ranged : PipelineInRange
       map-at (λ t. getD figures t 0) (take (run .passed) order) k (omega arith) ∙
       ap (λ t. getD figures t 0) (getD-take (run .passed) order k 0 b) ∙ figure-at k b)
 
+  all-together : sumOf figures ≡ published (r .base) (before (run .passed))
+  all-together =
+      ap sumOf figures-are ∙
+      put-sum (replicate (lentCount (plan .tokens) r) 0) passings each-once each-small (λ n h. cleared (lentCount (plan .tokens) r) n) ∙
+      omega (arith, sum-zeros (lentCount (plan .tokens) r), run .published-is, ap (published (r .base)) (run .sum-is ∙ ap sumOf cells-are))
+
   -- every list of choices, with the same cells throughout and the figures handed on
   pub carried-run : CarriedRun S plan workers x r cells ls order
   carried-run = record {
@@ -141,6 +153,7 @@ module _ {X : Type 0} {S : Source X} {plan : Pipeline} (ranged : PipelineInRange
     tokens-are = run .in-order;
     sum-is = run .sum-is ∙ ap sumOf cells-are;
     published-is = ap sumOf figures-read ∙ run .published-is ∙ ap (published (r .base)) (run .sum-is ∙ ap sumOf cells-are);
+    total = all-together;
     figure-is = λ k h. figure-at k h ∙
         omega (
           arith,

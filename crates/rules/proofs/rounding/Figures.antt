@@ -1,8 +1,8 @@
 -- Figures that are handed on from choice to choice, with the same cells throughout.
 use mathlib.Core.Path.{_≡_, refl, sym, ap, _∙_}
-use mathlib.Core.Bool.{false}
+use mathlib.Core.Bool.{true, false}
 use mathlib.Core.List.{List, [], _∷_, map}
-use Prim.Native.Nat.{ℕ, zero, suc, _≤_, _<_}
+use Prim.Native.Nat.{ℕ, zero, suc, _+_, _≤_, _<_}
 use native.Mathlib.Omega.{arith}
 use lib.ListN.{length, getD, set, length-set}
 use lib.Seq.{getD-set-same, getD-set-other, set-out}
@@ -10,7 +10,7 @@ use Rattle.rules.specs.Lists.{has, times, Every}
 use Rattle.rules.specs.Sources.{Source}
 use Rattle.rules.specs.Choices.{Choice}
 use Rattle.rules.specs.Rounding.{rise, Rounding, Passing, NonePasses, Passes, passing, figuresAfter, Run, Lending, chooseRounded}
-use Rattle.rules.specs.RoundedRuns.{PassedCell, tokensIn, cellsIn, figuresIn, addPassed, passedCells, handedOn, figuresLeft}
+use Rattle.rules.specs.RoundedRuns.{sumOf, PassedCell, tokensIn, cellsIn, figuresIn, addPassed, passedCells, handedOn, figuresLeft}
 use Rattle.rules.proofs.lists.Tests.{same, other, lower, upper, below}
 use Rattle.rules.proofs.lists.Counting.{members, same-number}
 use Rattle.rules.proofs.rounding.Choice.{spoiled, own, unfit, too-much, accepts, case}
@@ -44,6 +44,23 @@ put-at f (p ∷ l) once small zero h =
     getD-set-same f (p .token) (p .figure) 0 (small .0)
 put-at f (p ∷ l) once small (suc k) h =
     put-at (set f (p .token) (p .figure)) l (λ n. omega (arith, once n)) (rw length-set (small .1)) k (omega arith)
+
+-- a figure put in for another
+sum-set : (f : List ℕ) (t v : ℕ) → t < length f → sumOf (set f t v) + getD f t 0 ≡ sumOf f + v
+unfolding sumOf
+sum-set [] t v h = absurd (omega arith)
+sum-set (n ∷ f) zero v h = omega arith
+sum-set (n ∷ f) (suc t) v h = omega (arith, sum-set f t v (omega arith))
+
+-- where each token comes once and had 0, all figures together are more by those of the passed cells
+pub put-sum : (f : List ℕ) (l : List PassedCell) → ((n : ℕ) → times n (tokensIn l) ≤ 1) → Every (λ t. t < length f) (tokensIn l) →
+    ((n : ℕ) → has (tokensIn l) n ≡ true → getD f n 0 ≡ 0) → sumOf (putAll f l) ≡ sumOf f + sumOf (figuresIn l)
+unfolding putAll times sumOf
+put-sum f [] once small clear = omega arith
+put-sum f (p ∷ l) once small clear =
+    let rest = put-sum (set f (p .token) (p .figure)) l (λ n. omega (arith, once n)) (rw length-set (small .1))
+    (λ n h. getD-set-other f (p .token) n (p .figure) 0 (λ e. omega (members, h, once n, same-number (p .token) n, e)) ∙ clear n (omega (members, h))) in
+    omega (arith, rest, sum-set f (p .token) (p .figure) (small .0), clear (p .token) (omega (members, same-number (p .token) (p .token))))
 
 -- reading what was put
 set-read : (f : List ℕ) (t v : ℕ) → set f t (getD (set f t v) t 0) ≡ set f t v
