@@ -21,7 +21,7 @@ use Rattle.demands.specs.CodeOffers.{OfferCall, TakeCall, offering, Offe
 use Rattle.demands.proofs.Unchanged.{same-state, refused-unchanged}
 use Rattle.demands.proofs.OneAnswer.{one-answer, one-return}
 
-event-is : (e : Event) → answerOf (offering e) ≡ eventOf e
+pub event-is : (e : Event) → answerOf (offering e) ≡ eventOf e
 unfolding answerOf
 event-is (Event.Started s) = refl
 event-is (Event.Finished s) = refl
@@ -40,7 +40,7 @@ offer-then-take s m w l a offers = record {
       (λ i. record { answer = answer-is i; state = state-is i }, same);
 }
 
-refusal : (why : Refusal) (a : Answer) → a ≡ Answer.Refused why → answerOf a ≡ rules.Refused (numberOf why)
+pub refusal : (why : Refusal) (a : Answer) → a ≡ Answer.Refused why → answerOf a ≡ rules.Refused (numberOf why)
 unfolding answerOf
 refusal why a e = ap answerOf e
 

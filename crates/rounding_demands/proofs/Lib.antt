@@ -4,5 +4,7 @@ pub mod RoundedPlans
 pub mod OneRun
 -- so is every session of the code;
 pub mod CodeRounding
+-- an offer and its taking are the choice;
+pub mod CodeRoundedOffers
 -- and so are its figures.
 pub mod CodeFigures
