@@ -18,7 +18,7 @@ none-in (w ∷ (l ∷ rest)) h = absurd (omega arith)
 
 module _ (bytes : List ℕ) (k : ℕ) where
   -- choice k is bytes 2·k and 2·k + 1
-  choice-at : 2 * k + 1 < length bytes →
+  pub choice-at : 2 * k + 1 < length bytes →
       choicesIn (drop (2 * k) bytes) ≡ record { worker = getD bytes (2 * k) 0; line = getD bytes (2 * k + 1) 0 } ∷ choicesIn (drop (2 * (k + 1)) bytes)
   unfolding choicesIn
   choice-at h =
@@ -26,7 +26,7 @@ module _ (bytes : List ℕ) (k : ℕ) where
       let two : 2 * (k + 1) ≡ suc (suc (2 * k)) = omega arith in
       rw (one, two, drop-cons bytes (2 * k) 0 (omega arith), drop-cons bytes (suc (2 * k)) 0 (omega arith))
 
-  choices-done : length bytes ≤ 2 * k + 1 → choicesIn (drop (2 * k) bytes) ≡ []
+  pub choices-done : length bytes ≤ 2 * k + 1 → choicesIn (drop (2 * k) bytes) ≡ []
   choices-done h = none-in (drop (2 * k) bytes) (omega (arith, length-drop (2 * k) bytes))
 
   module _ {X : Type 0} (S : Source X) (m : Machine X) where

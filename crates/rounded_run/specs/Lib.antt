@@ -1,0 +1,2 @@
+-- What a whole run with its rounding returns and leaves.
+pub mod RoundedWholeRuns
