@@ -1,5 +1,5 @@
-//! Links the archives that `rt staticlib` writes for whole_run, offered_run and taken_run, and, where
-//! BENCH_BEFORE names an older one of the first, that too, with its functions under other names.
+//! Links the archives that `rt staticlib` writes for whole_run, offered_run, taken_run and rounded_run, and,
+//! where BENCH_BEFORE names an older one of the first, that too, with its functions under other names.
 
 use std::env;
 use std::fs;
@@ -15,6 +15,7 @@ fn main() {
     link(&archives, "whole_run");
     link(&archives, "offered_run");
     link(&archives, "taken_run");
+    link(&archives, "rounded_run");
     println!("cargo:rustc-check-cfg=cfg(before)");
     println!("cargo:rerun-if-env-changed=BENCH_BEFORE");
     if let Some(archive) = env::var_os("BENCH_BEFORE").filter(|name| !name.is_empty()) {

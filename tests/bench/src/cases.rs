@@ -1,6 +1,7 @@
 //! The plans that are measured, each with its lists of choices.
 
 use crate::plain::{self, Choice};
+use crate::rounding::Lent;
 use crate::{check, plans};
 
 /// One token fewer than lines.
@@ -137,6 +138,24 @@ impl Kind {
 }
 
 impl Case {
+    /// Runs with rounding are measured without deferral, as it makes no difference to them.
+    pub fn rounds(&self) -> bool {
+        self.kind.deferral == Deferral::None
+            && self.kind.shape == Shape::Wide
+            && self.kind.tokens > ONE_ROUND
+    }
+
+    /// The same plan with lists of one choice each, where an opening alone is timed.
+    pub fn openings(&self) -> Case {
+        let lists = vec![vec![[0, 0]]; 32];
+        Case { kind: self.kind, file: self.file.clone(), workers: self.workers, lists }
+    }
+
+    /// For a run with rounding at pipe 2, which is serial, to base 5.
+    pub fn lent(&self) -> Lent {
+        Lent::new(2, 5, self.kind.tokens)
+    }
+
     pub fn choices(&self) -> usize {
         self.lists.iter().map(Vec::len).sum()
     }
@@ -147,6 +166,13 @@ impl Case {
         for choices in &self.lists {
             let same = check::same(&self.file, self.workers, choices, mem);
             same.and_then(|()| check::same_as_before(&self.file, self.workers, choices, mem))
+                .and_then(|()| match self.rounds() {
+                    true => {
+                        let lent = &mut self.lent();
+                        check::same_rounded(&self.file, self.workers, choices, lent, mem)
+                    }
+                    false => Ok(()),
+                })
                 .map_err(|why| {
                     format!("deferral: {deferral}, pipes and lines: {shape}, N = {tokens}, order: {order}: {why}")
                 })?;

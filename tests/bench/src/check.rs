@@ -4,6 +4,7 @@
 use crate::engine::{self, WholeRun};
 use crate::plain::{self, Answer, Choice, Run, Step};
 use crate::plans::{self, Chance, Plan, PARALLEL, SERIAL};
+use crate::rounding::Lent;
 
 const RANDOM_PLANS: usize = 5000;
 
@@ -32,6 +33,25 @@ pub fn same(file: &[u8], workers: u16, choices: &[Choice], mem: &mut [u16]) -> O
         expect(expected == mem, &format!("{way} leave the memory that choices leave"))?;
     }
     Ok(())
+}
+
+/// With rounding the answers and the memory are those without, and the figures those of the paper.
+pub fn same_rounded(
+    file: &[u8],
+    workers: u16,
+    choices: &[Choice],
+    lent: &mut Lent,
+    mem: &mut [u16],
+) -> Outcome {
+    mem.fill(MARK);
+    engine::run(file, workers, choices, mem);
+    let left = mem.to_vec();
+    mem.fill(MARK);
+    let told = engine::run_rounded(file, workers, lent, choices, mem);
+    expect(told == plain::run(file, workers, choices), "rounding changes no answer")?;
+    expect(left == mem, "rounding changes no memory")?;
+    let (_, said) = answers(file, workers, choices);
+    expect(lent.expected(&said) == lent.figures, "the figures are those of the paper")
 }
 
 /// Both sides make the same whole run, else it says which choice they first differ at.
@@ -75,6 +95,7 @@ pub fn all(mem: &mut [u16]) -> Outcome {
     println!("the plain stepper gives the worked cases");
     random_plans(mem)?;
     refused_openings()?;
+    refused_roundings()?;
     lent_beyond()
 }
 
@@ -225,12 +246,19 @@ fn random_plans(mem: &mut [u16]) -> Outcome {
         let workers = 1 + chance.below(most) as u16;
         let choices = random_choices(&mut chance, &plan, &file, workers);
         same(&file, workers, &choices, mem)
+            .and_then(|()| {
+                let serial = |&pipe: &usize| plan.pipes[pipe] == SERIAL;
+                let serial: Vec<usize> = (0..plan.pipes.len()).filter(serial).collect();
+                let pipe = chance.pick(&serial) as u16;
+                let mut lent = Lent::new(pipe, chance.pick(&[3, 5]), plan.tokens);
+                same_rounded(&file, workers, &choices, &mut lent, mem)
+            })
             .map_err(|why| format!("random plan {number}: {why}; {plan:?}"))?;
         let (run, said) = answers(&file, workers, &choices);
         said.iter().for_each(|answer| seen[kind(answer)] += 1);
         ended += usize::from(run.ended());
     }
-    print!("{RANDOM_PLANS} random plans: all checksums agree; {ended} runs ended; answers:");
+    print!("{RANDOM_PLANS} random plans, with and without rounding: all checksums agree; {ended} runs ended; answers:");
     KINDS.iter().zip(seen).for_each(|(name, many)| print!(" {many} {name},"));
     println!(" {} in all", seen.iter().sum::<usize>());
     // Else this compares too little.
@@ -386,6 +414,35 @@ fn refused(what: &str, number: u64, file: &[u8], workers: u16, lent: usize) -> O
         expect(got == number, &format!("{way}: {what} gets {number} (got {got})"))?;
         expect(mem.iter().all(|&x| x == MARK), &format!("{way}: {what} writes nothing"))?;
     }
+    Ok(())
+}
+
+/// Bad pipes, bases, cells and figures: each gets its number and writes nothing.
+fn refused_roundings() -> Outcome {
+    let pipes = vec![SERIAL, PARALLEL];
+    let file = Plan { pipes, lines: 2, tokens: 5, records: vec![(1, vec![2, 3])] }.file();
+    let tries: [(&str, u64, fn(&mut Lent)); 9] = [
+        ("a pipe past the last", 16, |lent| lent.pipe = 2),
+        ("a parallel pipe", 16, |lent| lent.pipe = 1),
+        ("base 2", 17, |lent| lent.base = 2),
+        ("base 4", 17, |lent| lent.base = 4),
+        ("a cell too few", 18, |lent| lent.cells.truncate(4)),
+        ("a cell too many", 18, |lent| lent.cells.push(0)),
+        ("a cell of 1,000,001", 18, |lent| lent.cells[4] = 1_000_001),
+        ("a figure too few", 18, |lent| lent.figures.truncate(4)),
+        ("a figure too many", 18, |lent| lent.figures.push(u32::MAX)),
+    ];
+    for (what, number, change) in tries {
+        let mut lent = Lent::new(0, 3, 5);
+        change(&mut lent);
+        let mut mem = vec![MARK; engine::LENT];
+        let got = engine::run_rounded(&file, 1, &mut lent, &[[0, 0], [0, 0]], &mut mem);
+        expect(got == number, &format!("{what} gets {number} (got {got})"))?;
+        let unwritten =
+            mem.iter().all(|&x| x == MARK) && lent.figures.iter().all(|&x| x == u32::MAX);
+        expect(unwritten, &format!("{what} writes nothing"))?;
+    }
+    println!("{} refused openings with rounding: the same", tries.len());
     Ok(())
 }
 

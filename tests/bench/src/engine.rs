@@ -1,7 +1,8 @@
-//! The functions of the three proved archives: each run has one of its own, as the compiler would make
+//! The functions of the four proved archives: each run has one of its own, as the compiler would make
 //! another program of it beside calls of the same functions from elsewhere.
 
 use crate::plain::Choice;
+use crate::rounding::Lent;
 
 /// How many numbers a run must be lent.
 pub const LENT: usize = 32_768;
@@ -48,10 +49,65 @@ whole_run!(run, pipeline_run);
 whole_run!(run_offered, pipeline_run_offered);
 whole_run!(run_taken, pipeline_run_taken);
 
-/// The ways to make a choice: at once; offered first and then made; or offered first, and the event that
-/// was offered taken. All give the same answers and leave the same memory.
-pub const WAYS: [(&str, WholeRun); 3] =
-    [("choices", run), ("offers and choices", run_offered), ("offers and takings", run_taken)];
+/// The same with rounding, or without it if the base is 0; the numbers of a refused opening are then 1 to
+/// 9 and 16 to 18.
+pub fn run_rounded(
+    file: &[u8],
+    workers: u16,
+    lent: &mut Lent,
+    choices: &[Choice],
+    mem: &mut [u16],
+) -> u64 {
+    extern "C" {
+        fn pipeline_run_rounded(
+            file: *const u8,
+            file_len: usize,
+            workers: u16,
+            pipe: u16,
+            base: u16,
+            choices: *const u8,
+            choices_len: usize,
+            mem: *mut u16,
+            mem_len: usize,
+            cells: *const u32,
+            cells_len: usize,
+            figures: *mut u32,
+            figures_len: usize,
+        ) -> u64;
+    }
+    // Safe: as above; `mem` and the figures are written.
+    unsafe {
+        pipeline_run_rounded(
+            file.as_ptr(),
+            file.len(),
+            workers,
+            lent.pipe,
+            lent.base,
+            choices.as_ptr().cast(),
+            2 * choices.len(),
+            mem.as_mut_ptr(),
+            mem.len(),
+            lent.cells.as_ptr(),
+            lent.cells.len(),
+            lent.figures.as_mut_ptr(),
+            lent.figures.len(),
+        )
+    }
+}
+
+/// Without rounding, by the function that makes choices with it.
+pub fn run_unrounded(file: &[u8], workers: u16, choices: &[Choice], mem: &mut [u16]) -> u64 {
+    run_rounded(file, workers, &mut Lent::none(), choices, mem)
+}
+
+/// The ways to make a choice: at once; offered first and then made; offered first, and the event that was
+/// offered taken; or by a call that could round. All give the same answers and leave the same memory.
+pub const WAYS: [(&str, WholeRun); 4] = [
+    ("choices", run),
+    ("offers and choices", run_offered),
+    ("offers and takings", run_taken),
+    ("choices that could round", run_unrounded),
+];
 
 #[cfg(before)]
 whole_run!(run_before, pipeline_run_before);

@@ -12,6 +12,20 @@ const MOST_DEFERRED_GROWTH: f64 = 2.5;
 const MOST_TO_BEFORE: f64 = 1.05;
 const MOST_OFFER: f64 = 1.0;
 const MOST_OFFER_AND_TAKING: f64 = 2.2;
+/// Nanoseconds.
+const MOST_ROUNDING: f64 = 1500.0;
+const MOST_ROUNDING_TO_SCAN: f64 = 1.5;
+
+/// Choices by a call that could round: of runs without rounding, and where they are measured with it.
+#[derive(Default)]
+pub struct RoundingTimes {
+    pub without: Times,
+    pub with: Times,
+    /// A plain scan of the cells.
+    pub scan: Times,
+    pub opening: Times,
+    pub opening_with: Times,
+}
 
 pub struct Measured<'a> {
     pub case: &'a Case,
@@ -24,12 +38,14 @@ pub struct Measured<'a> {
     /// Choices by an older archive of the engine, where one was linked.
     pub before: Times,
     pub plain: Times,
+    pub rounding: RoundingTimes,
 }
 
 impl<'a> Measured<'a> {
     pub fn new(case: &'a Case) -> Measured<'a> {
         let [engine, offered, taken, before, plain] = [(); 5].map(|()| Times::default());
-        Measured { case, engine, offered, taken, before, plain }
+        let rounding = RoundingTimes::default();
+        Measured { case, engine, offered, taken, before, plain, rounding }
     }
 
     /// What an offer takes beside a choice.
@@ -117,6 +133,43 @@ pub fn print_offers(measured: &[Measured]) {
     }
 }
 
+pub fn print_roundings(measured: &[Measured]) {
+    println!(
+        "\nThe same runs, 16 pipes and 32 lines, by a call that could round (of librounded_run.a): without \
+         rounding, beside a choice of libwhole_run.a, and with rounding at pipe 2 to base 5. More: by how \
+         much a choice with rounding is longer than one of libwhole_run.a. Scan: a plain Rust scan of the \
+         N cells, a loop without a way out. Opening: one with rounding beside one without, in \
+         microseconds.\n"
+    );
+    println!(
+        "| N | order | choice, lowest | could round, lowest | could round / choice | with rounding, median \
+         | with rounding, lowest | more, median | more, lowest | scan, median | scan, lowest | more / scan \
+         | opening, lowest | opening with rounding, lowest | ratio |"
+    );
+    println!("|--:|---|--:|--:|--:|--:|--:|--:|--:|--:|--:|--:|--:|--:|--:|");
+    for m in measured.iter().filter(|m| m.case.rounds()) {
+        let RoundingTimes { without, with, scan, opening, opening_with } = &m.rounding;
+        println!(
+            "| {} | {} | {:.2} | {:.2} | {:.2} | {:.2} | {:.2} | {:.2} | {:.2} | {:.2} | {:.2} | {:.2} | {:.2} | {:.2} | {:.2} |",
+            m.case.kind.tokens,
+            m.case.kind.order.name(),
+            m.engine.lowest(),
+            without.lowest(),
+            without.ratio_to(&m.engine),
+            with.median(),
+            with.lowest(),
+            with.more_than(&m.engine),
+            with.lowest() - m.engine.lowest(),
+            scan.median(),
+            scan.lowest(),
+            with.more_than_by(&m.engine, scan),
+            opening.lowest() / 1000.0,
+            opening_with.lowest() / 1000.0,
+            opening_with.ratio_to(opening),
+        );
+    }
+}
+
 fn print_verdict(target: &str, kind: Kind, most: f64, found: f64) {
     let verdict = if found <= most { "met" } else { "not met" };
     let (shape, order) = (kind.shape.name(), kind.order.name());
@@ -183,6 +236,19 @@ fn print_wide<'a>(none: Kind, find: &impl Fn(Kind) -> &'a Measured<'a>) {
             find(Kind { deferral, ..none }).engine.ratio_to(large),
         );
     }
+    let rounding = &find(none).rounding;
+    print_verdict(
+        "with rounding at N = 4096, nanoseconds more a choice",
+        none,
+        MOST_ROUNDING,
+        rounding.with.more_than(large),
+    );
+    print_verdict(
+        "the same / a plain scan of the cells",
+        none,
+        MOST_ROUNDING_TO_SCAN,
+        rounding.with.more_than_by(large, &rounding.scan),
+    );
     if engine::BEFORE.is_some() {
         print_verdict(
             "engine without deferral / before, highest over N",

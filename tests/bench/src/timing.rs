@@ -30,6 +30,12 @@ impl Times {
         median(self.0.iter().zip(&other.0).map(|(mine, its)| mine / its))
     }
 
+    /// The median of the rounds' differences as ratios to a third.
+    pub fn more_than_by(&self, other: &Times, unit: &Times) -> f64 {
+        let rounds = self.0.iter().zip(&other.0).zip(&unit.0);
+        median(rounds.map(|((mine, its), one)| (mine - its) / one))
+    }
+
     /// The median of the rounds' differences.
     pub fn more_than(&self, other: &Times) -> f64 {
         median(self.0.iter().zip(&other.0).map(|(mine, its)| mine - its))
