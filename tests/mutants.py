@@ -29,7 +29,7 @@ from collections import Counter
 from pathlib import Path
 
 ROOT = Path(__file__).resolve().parent.parent
-CRATES = ["vocabulary", "fields", "plan", "tables", "facts", "taking", "releasing", "sink", "printing", "state", "ranges", "loading", "opening", "engine", "marking", "journal", "journal_file", "session", "feeding", "words", "commands", "answering", "serving", "whole_run", "offered_run", "taken_run"]
+CRATES = ["vocabulary", "fields", "plan", "tables", "facts", "taking", "releasing", "sink", "printing", "state", "ranges", "loading", "opening", "engine", "marking", "journal", "journal_file", "rounding", "rounded_opening", "rounded", "cells", "session", "feeding", "words", "commands", "answering", "serving", "whole_run", "offered_run", "taken_run", "rounded_run"]
 KINDS = ["comparison", "constant", "swap", "drop"]
 
 # Without --all a function with a contract gets one mutant, or two if many can be made of it. Of
