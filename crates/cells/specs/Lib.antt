@@ -1,0 +1,2 @@
+-- Cells in a file.
+pub mod Cells
