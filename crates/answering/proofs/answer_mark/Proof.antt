@@ -20,7 +20,7 @@ returns : tie.Need-returns
 returns c =
     let at-put = c .before .before in
     let marked = at-put .before .before .before .before .mark-file .ensures in
-    (refl, (marked .1, rw (← marked .0) (at-put .put-marking .ensures)))
+    ((refl, refl), (marked .1, rw (← marked .0) (at-put .put-marking .ensures)))
 
 pub answer-mark-spec : {M : Type 1} → statement M
 answer-mark-spec =

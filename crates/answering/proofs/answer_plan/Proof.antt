@@ -16,7 +16,7 @@ same-length c = search needs
 returns : tie.Need-returns
 returns c =
     let at-put = c .before .before in
-    (refl, rw (← at-put .before .read .ensures) (at-put .put-reading .ensures))
+    ((refl, refl), rw (← at-put .before .read .ensures) (at-put .put-reading .ensures))
 
 pub answer-plan-spec : {M : Type 1} → statement M
 answer-plan-spec = tie.close (tie.spec read-requires put-reading-requires same-length returns)

@@ -11,7 +11,7 @@ same-length : tie.Need-same-length
 same-length c = search needs
 
 returns : tie.Need-returns
-returns c = λ m. laws.told-is _ _ (c .before .before .put .ensures)
+returns c = λ m cells figures. laws.told-is _ _ (c .before .before .put .ensures)
 
 pub tell-spec : {M : Type 1} → statement M
 tell-spec = tie.close (tie.spec put-requires same-length returns)

@@ -20,7 +20,7 @@ returns : tie.Need-returns
 returns c =
     let at-tell = c .before .before in
     let at-if = at-tell .before .before .before in
-    λ m. laws.ended-is _ (at-if .before .ended .ensures .0) (at-if .if1 .taken) (at-tell .tell .ensures m)
+    λ m cells figures. laws.ended-is _ (at-if .before .ended .ensures .0) (at-if .if1 .taken) (at-tell .tell .ensures m cells figures)
 
 slice-aggregate-tell-2 : tie.Need-slice-aggregate-tell-2
 slice-aggregate-tell-2 c = search needs
@@ -35,7 +35,7 @@ returns-2 : tie.Need-returns-2
 returns-2 c =
     let at-tell = c .before .before in
     let at-if = at-tell .before .before .before in
-    λ m. laws.not-ended-is _ (at-if .before .ended .ensures .0) (at-if .if1 .left) (at-tell .tell2 .ensures m)
+    λ m cells figures. laws.not-ended-is _ (at-if .before .ended .ensures .0) (at-if .if1 .left) (at-tell .tell2 .ensures m cells figures)
 
 pub tell-end-spec : {M : Type 1} → statement M
 tell-end-spec =
