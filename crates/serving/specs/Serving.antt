@@ -6,17 +6,20 @@ use lib.ListN.{length}
 use Rattle.rules.specs.Lists.{mustNot}
 use Rattle.commands.specs.Commands.{commandOf}
 use Rattle.commands.specs.declared.Command.{Command}
-use Rattle.commands.specs.declared.Command.the-variants.{Plan, Open, Choose, Offer, Take, Mark, Ended, Quit, Unknown}
+use Rattle.commands.specs.declared.Command.the-variants.{Plan, Open, OpenRounded, Choose, Offer, Take, Mark, Figures, Sum, Ended, Quit, Unknown}
 use Rattle.answering.specs.Answers.{Held, answered}
 
 -- the commands that the program itself answers: it reads a file, or ends
 abbrev pub forProgram : Command → Bool
 forProgram (Plan start) = true
 forProgram (Open workers) = false
+forProgram (OpenRounded asked) = true
 forProgram (Choose choice) = false
 forProgram (Offer choice) = false
 forProgram (Take event) = false
 forProgram (Mark journal) = true
+forProgram Figures = false
+forProgram Sum = false
 forProgram Ended = false
 forProgram Quit = true
 forProgram Unknown = false
