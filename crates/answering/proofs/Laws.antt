@@ -29,7 +29,7 @@ use Rattle.rounding.specs.Runs.{runOf, withoutRounding}
 use Rattle.rounded.specs.declared.Chosen.{Chosen}
 use Rattle.rounded.specs.Runs.{lent, chosenOf}
 use Rattle.rounded_opening.specs.declared.Opened as rounded
-use Rattle.rounded_opening.specs.RoundedOpenings.{openRoundedOf}
+use Rattle.rounded_opening.specs.RoundedOpenings.{RoundedOpening, openRoundedOf}
 use Rattle.marking.specs.declared.Marking.{Marking}
 use Rattle.marking.specs.Marking.{verdictOf}
 use Rattle.sink.specs.Sinks.{Output, putOf, putEach}
@@ -155,16 +155,26 @@ module _ (file : List ℕ) (c : Held) where
   unfolding openedIn
   opened-is workers e run-is memory-is r-is = rw (run-is, r-is, e, memory-is)
 
-  -- and after one with rounding
-  pub rounded-is : (asked : RoundingAt) {opened : rounded.Opened} {memory figures : List ℕ} {many : ℕ} {r : Output} →
-      opened ≡ openRoundedOf file (asked .workers) (asked .pipe .0) (asked .base) (c .memory) (c .cells) (c .figures) .returned →
-      memory ≡ openRoundedOf file (asked .workers) (asked .pipe .0) (asked .base) (c .memory) (c .cells) (c .figures) .memory →
-      figures ≡ openRoundedOf file (asked .workers) (asked .pipe .0) (asked .base) (c .memory) (c .cells) (c .figures) .figures →
-      many ≡ if (isAccepted (opened .answer)) (length (c .cells)) 0 → r ≡ putEach (c .output) (openingTexts (opened .answer)) →
-      _≡_ {A = Held} (record { run = opened .run; lent = many; memory = memory; cells = c .cells; figures = figures; output = r })
-      (openedRoundedIn file asked c)
+-- and after one with rounding, made with the first cells and figures
+module _ (file : List ℕ) (asked : RoundingAt) (many : ℕ) (c : Held) {m n : ℕ} (m-is : m ≡ min many (length (c .cells)))
+    (n-is : n ≡ min many (length (c .figures))) where
+  abbrev opening : RoundedOpening
+  opening = openRoundedOf file (asked .workers) (asked .pipe .0) (asked .base) (c .memory) (take m (c .cells)) (take n (c .figures))
+
+  pub rounded-is : {opened : rounded.Opened} {memory : List ℕ} (part : List ℕ) {count : ℕ} {r : Output} → opened ≡ opening .returned →
+      memory ≡ opening .memory → part ≡ opening .figures → count ≡ if (isAccepted (opened .answer)) many 0 →
+      r ≡ putEach (c .output) (openingTexts (opened .answer)) →
+      _≡_ {A = Held} (record {
+        run = opened .run;
+        lent = count;
+        memory = memory;
+        cells = c .cells;
+        figures = part ++ drop n (c .figures);
+        output = r;
+      }) (openedRoundedIn file asked many c)
   unfolding openedRoundedIn afterOpening
-  rounded-is asked e memory-is figures-are many-is r-is = rw (r-is, many-is, e, memory-is, figures-are)
+  rounded-is part e memory-is part-is count-is r-is =
+      rw (r-is, count-is, e, memory-is, part-is, ← first-lent (c .cells) many m-is, ← first-lent (c .figures) many n-is, rest-kept (c .figures) many n-is)
 
 -- how many cells are lent after an opening
 module _ {a : Opening} (many : ℕ) where

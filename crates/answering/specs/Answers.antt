@@ -1,7 +1,7 @@
 -- What a command makes of what the console holds (docs/CONSOLE.md): the run, its lent numbers, cells and figures, and the output.
 use mathlib.Core.List.{List, [], _∷_, _++_}
 use Prim.Native.Nat.{ℕ}
-use lib.ListN.{length, take, drop}
+use lib.ListN.{take, drop}
 use Rattle.vocabulary.specs.declared.event.Event.{Event}
 use Rattle.rules.specs.Lists.{if}
 use Rattle.rules.specs.Rounding as paper
@@ -79,22 +79,24 @@ openedIn file workers c =
       output = putEach (c .output) (openingTexts (openOf file workers (c .memory) .0 .answer));
     }
 
--- what an opening with rounding leaves and says: all the cells are lent with a run that is opened, and none where it is refused
-unfoldable pub afterOpening : RoundedOpening → Held → Held
-afterOpening opened c =
+-- what an opening with rounding leaves and says: as many cells and figures are lent with a run that is opened, and none where it is
+-- refused; the figures beyond stay as they are
+unfoldable pub afterOpening : ℕ → RoundedOpening → Held → Held
+afterOpening many opened c =
     record {
       run = opened .returned .run;
-      lent = if (isAccepted (opened .returned .answer)) (length (c .cells)) 0;
+      lent = if (isAccepted (opened .returned .answer)) many 0;
       memory = opened .memory;
       cells = c .cells;
-      figures = opened .figures;
+      figures = opened .figures ++ drop many (c .figures);
       output = putEach (c .output) (openingTexts (opened .returned .answer));
     }
 
--- `open W PIPE BASE PATH`, where the cells and the figures are those that the path is read for
-unfoldable pub openedRoundedIn : List ℕ → RoundingAt → Held → Held
-openedRoundedIn file asked c =
-    afterOpening (openRoundedOf file (asked .workers) (asked .pipe .0) (asked .base) (c .memory) (c .cells) (c .figures)) c
+-- `open W PIPE BASE PATH`, where the path's cells are so many, the first ones: with as many figures, the first ones too
+unfoldable pub openedRoundedIn : List ℕ → RoundingAt → ℕ → Held → Held
+openedRoundedIn file asked many c =
+    afterOpening many
+    (openRoundedOf file (asked .workers) (asked .pipe .0) (asked .base) (c .memory) (take many (c .cells)) (take many (c .figures))) c
 
 -- what a choice leaves and says; the figures that are not lent stay as they are
 unfoldable pub after : paper.RoundedChosen tables.State → Held → Held

@@ -96,33 +96,38 @@ fn lent_after(answer: Opening, many: usize) -> usize
     }
 }
 
-// `open W PIPE BASE PATH`, once the cells are read, with as many figures: `A`, or `R n`.
+// `open W PIPE BASE PATH`, once so many cells are read, with as many figures: `A`, or `R n`.
 pub fn answer_open_rounded(
     talk: Talk,
     file: &[u8],
     asked: RoundingAt,
+    many: usize,
     mem: &mut [u16],
     cells: &[u32],
     figures: &mut [u32],
     out: &mut [u8],
 ) -> Talk
     ensures { λ r. ⌜ heldOf r (now (mem .exit)) (now (cells .entry)) (now (figures .exit)) (now (out .exit)) ≡
-        openedRoundedIn (now (file .entry)) asked (heldOf talk (now (mem .entry)) (now (cells .entry)) (now (figures .entry)) (now (out .entry))) ⌝ }
+        openedRoundedIn (now (file .entry)) asked many
+        (heldOf talk (now (mem .entry)) (now (cells .entry)) (now (figures .entry)) (now (out .entry))) ⌝ }
 {
     let sink = talk.sink;
     let pipe = asked.pipe;
+    let base = asked.base;
+    let m = at_most(many, cells.len());
+    let n = at_most(many, figures.len());
     let opened = rounded_opening::open_rounded(
         file,
         asked.workers,
         pipe,
-        asked.base,
+        base,
         mem,
-        cells,
-        figures,
+        &cells[..m],
+        &mut figures[..n],
     );
     let answer = opened.answer;
     let run = opened.run;
-    let lent = lent_after(answer, cells.len());
+    let lent = lent_after(answer, many);
     Talk {
         run: run,
         lent: lent,

@@ -47,10 +47,10 @@ module _ (c : Console) (out : List ℕ) where
   refuses-not h = rw (le-ltb 8191 (c .input .end - c .input .at) h)
 
   pub refuses : 8191 < c .input .end - c .input .at → {sink : Sink} {after : List ℕ} {i : Input} →
-      (sink, after) ≡ putOf (c .session .sink, out) (63 ∷ 10 ∷ []) → i ≡ tooLong (c .input) →
+      (sink, after) ≡ putOf (c .talk .sink, out) (63 ∷ 10 ∷ []) → i ≡ tooLong (c .input) →
       _≡_ {A = Console × List ℕ} (
         record {
-          session = record { state = c .session .state; sink = sink };
+          talk = record { run = c .talk .run; lent = c .talk .lent; sink = sink };
           size = c .size;
           input = i;
           done = c .done;

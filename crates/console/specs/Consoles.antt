@@ -6,6 +6,7 @@ use lib.Dec.{ltb}
 use Rattle.rules.specs.Lists.{must}
 use Rattle.vocabulary.specs.declared.refusal.Refusal.the-variants.{FileSize}
 use Rattle.opening.specs.Opened.{refusedWith}
+use Rattle.rounding.specs.Runs.{withoutRounding}
 use Rattle.sink.specs.Sinks.{Output, written, flushedOf, putOf}
 use Rattle.console.specs.declared.input.Input.{Input}
 use Rattle.console.specs.declared.Console.{Console}
@@ -16,22 +17,27 @@ pub record Kept (files inputs : ℕ) (c : Console) : Type 0 where
   pub size : c .size ≤ files
   pub input : Within inputs (c .input)
 
--- at first: an empty plan file, a state of zeros, and no input
+-- at first: an empty plan file, a state of zeros without rounding, nothing lent to it, and no input
 abbrev pub begun : Console
-begun = record { session = record { state = refusedWith FileSize .state; sink = written }; size = 0; input = noInput; done = false }
+begun = record {
+  talk = record { run = withoutRounding (refusedWith FileSize .state); lent = 0; sink = written };
+  size = 0;
+  input = noInput;
+  done = false;
+}
 
 -- nothing more is done
 abbrev pub finished : Console → Console
-finished c = record { session = c .session; size = c .size; input = c .input; done = true }
+finished c = record { talk = c .talk; size = c .size; input = c .input; done = true }
 
 -- from another place of its input on
 abbrev pub consoleFrom : Console → ℕ → Console
-consoleFrom c at = record { session = c .session; size = c .size; input = inputFrom (c .input) at; done = c .done }
+consoleFrom c at = record { talk = c .talk; size = c .size; input = inputFrom (c .input) at; done = c .done }
 
 -- with `?` put, and the input passed over
 abbrev pub refusedIn : Console → Output → Console
 refusedIn c o = record {
-  session = record { state = c .session .state; sink = o .0 };
+  talk = record { run = c .talk .run; lent = c .talk .lent; sink = o .0 };
   size = c .size;
   input = tooLong (c .input);
   done = c .done;
@@ -41,12 +47,12 @@ refusedIn c o = record {
 unfoldable pub refusedLong : Console → List ℕ → Console × List ℕ
 refusedLong c out =
     must (ltb 8191 (c .input .end - c .input .at)) (c, out)
-    (refusedIn c (putOf (c .session .sink, out) (63 ∷ 10 ∷ [])), putOf (c .session .sink, out) (63 ∷ 10 ∷ []) .1)
+    (refusedIn c (putOf (c .talk .sink, out) (63 ∷ 10 ∷ [])), putOf (c .talk .sink, out) (63 ∷ 10 ∷ []) .1)
 
 -- what waits is written out, and the input is another
 abbrev pub writtenOut : Console → List ℕ → Input → Console
 writtenOut c out i = record {
-  session = record { state = c .session .state; sink = flushedOf (c .session .sink) out };
+  talk = record { run = c .talk .run; lent = c .talk .lent; sink = flushedOf (c .talk .sink) out };
   size = c .size;
   input = i;
   done = c .done;

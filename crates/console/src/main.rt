@@ -9,17 +9,18 @@ ghost use lib.ListN.{length, take, drop};
 ghost use Rattle.commands.specs.Commands.{commandOf};
 ghost use Rattle.console.specs.Inputs.{Within};
 ghost use Rattle.console.specs.Consoles.{Kept, begun, finished, consoleFrom, refusedLong};
-ghost use Rattle.console.specs.Turns.{Answered, Planned, Marked, Obeyed, freshNumbers, Waited, Turned, Turns, whole};
+ghost use Rattle.console.specs.Turns.{Answered, Planned, Rounded, Marked, Obeyed, freshNumbers, Waited, Turned, Turns, lentOf, whole};
+use answering::Talk;
 use commands::Command;
 use commands::MOST_OF_LINE;
+use commands::RoundingAt;
 use input::Input;
 use printing::Sink;
-use session::Session;
 
 // What the console keeps beside its buffers: the run and its output, the plan file's size, which input is not served yet, and whether
 // all is done.
 pub struct Console {
-    pub session: Session,
+    pub talk: Talk,
     pub size: usize,
     pub input: Input,
     pub done: bool,
@@ -29,12 +30,58 @@ pub struct Console {
 fn take_plan(was: Console, path: &[u8], file: &mut [u8], out: &mut [u8]) -> Console
     ensures { λ r. ⌜ Planned was (now (out .entry)) r (now (file .exit)) (now (out .exit)) ⌝ }
 {
-    let session = was.session;
+    let talk = was.talk;
     let input = was.input;
     let size = files::read(path, file);
-    let told = answering::answer_plan(session, &file[..size], out);
+    let told = answering::answer_plan(talk, &file[..size], out);
     Console {
-        session: told,
+        talk: told,
+        size: size,
+        input: input,
+        done: was.done,
+    }
+}
+
+// A buffer for a file of cells: it takes one cell more than a plan can have tokens.
+fn cells_buffer() -> [u8; 16388]
+    ensures { λ r. ⌜ 16388 ≡ length r ⌝ }
+{
+    [0; 16388]
+}
+
+// `open W PIPE BASE PATH`: the cells are kept for later choices.
+fn take_cells(
+    was: Console,
+    asked: RoundingAt,
+    path: &[u8],
+    file: &[u8],
+    mem: &mut [u16],
+    cells: &mut [u32],
+    figures: &mut [u32],
+    out: &mut [u8],
+) -> Console
+    requires { ⌜ was .size ≤ length (now file) ⌝ }
+    ensures { λ r. ⌜ Rounded asked was (now (file .entry)) (lentOf (now (mem .entry)) (now (cells .entry)) (now (figures .entry))) (now (out .entry))
+        r (lentOf (now (mem .exit)) (now (cells .exit)) (now (figures .exit))) (now (out .exit)) ⌝ }
+{
+    let talk = was.talk;
+    let input = was.input;
+    let size = was.size;
+    let mut bytes = cells_buffer();
+    let found = files::read(path, &mut bytes);
+    let many = cells::read_cells(&bytes[..found], cells);
+    let told = answering::answer_open_rounded(
+        talk,
+        &file[..size],
+        asked,
+        many,
+        mem,
+        cells,
+        figures,
+        out,
+    );
+    Console {
+        talk: told,
         size: size,
         input: input,
         done: was.done,
@@ -61,14 +108,14 @@ fn take_journal(was: Console, workers: u16, path: &[u8], file: &[u8], out: &mut 
     requires { ⌜ was .size ≤ length (now file) ⌝ }
     ensures { λ r. ⌜ Marked workers was (now (file .entry)) (now (out .entry)) r (now (out .exit)) ⌝ }
 {
-    let session = was.session;
+    let talk = was.talk;
     let input = was.input;
     let size = was.size;
     let mut journal = journal_buffer();
     let mut mem = fresh_numbers();
     let count = files::read(path, &mut journal);
     let told = answering::answer_mark(
-        session,
+        talk,
         &file[..size],
         workers,
         &journal[..count],
@@ -76,7 +123,7 @@ fn take_journal(was: Console, workers: u16, path: &[u8], file: &[u8], out: &mut 
         out,
     );
     Console {
-        session: told,
+        talk: told,
         size: size,
         input: input,
         done: was.done,
@@ -87,10 +134,10 @@ fn take_journal(was: Console, workers: u16, path: &[u8], file: &[u8], out: &mut 
 fn finish(was: Console) -> Console
     ensures { λ r. ⌜ r ≡ finished was ⌝ }
 {
-    let session = was.session;
+    let talk = was.talk;
     let input = was.input;
     Console {
-        session: session,
+        talk: talk,
         size: was.size,
         input: input,
         done: true,
@@ -98,13 +145,27 @@ fn finish(was: Console) -> Console
 }
 
 // Does what a line asks for that is the program's own; only such a line is left by `serve` (`left-is-own`).
-fn obey(was: Console, line: &[u8], file: &mut [u8], out: &mut [u8]) -> Console
+fn obey(
+    was: Console,
+    line: &[u8],
+    file: &mut [u8],
+    mem: &mut [u16],
+    cells: &mut [u32],
+    figures: &mut [u32],
+    out: &mut [u8],
+) -> Console
     requires { ⌜ was .size ≤ length (now file) ⌝ }
     ensures kept { λ r. ⌜ (r .size ≤ length (now (file .exit))) × (r .input ≡ was .input) ⌝ }
-    ensures obeys { λ r. ⌜ Obeyed (commandOf (now (line .entry))) was (now (file .entry)) (now (out .entry)) r (now (file .exit)) (now (out .exit)) ⌝ }
+    ensures obeys { λ r. ⌜ Obeyed (commandOf (now (line .entry))) was
+        (now (file .entry)) (lentOf (now (mem .entry)) (now (cells .entry)) (now (figures .entry))) (now (out .entry))
+        r (now (file .exit)) (lentOf (now (mem .exit)) (now (cells .exit)) (now (figures .exit))) (now (out .exit)) ⌝ }
 {
     match commands::parse(line) {
         Command::Plan(start) => take_plan(was, &line[start..], file, out),
+        Command::OpenRounded(asked) => {
+            let start = asked.start;
+            take_cells(was, asked, &line[start..], file, mem, cells, figures, out)
+        }
         Command::Mark(journal) => {
             let start = journal.start;
             take_journal(was, journal.workers, &line[start..], file, out)
@@ -114,30 +175,42 @@ fn obey(was: Console, line: &[u8], file: &mut [u8], out: &mut [u8]) -> Console
         Command::Choose(_) => was,
         Command::Offer(_) => was,
         Command::Take(_) => was,
+        Command::Figures => was,
+        Command::Sum => was,
         Command::Ended => was,
         Command::Unknown => was,
     }
 }
 
 // The next line, of so many bytes, is the program's own.
-fn own_line(was: Console, size: usize, file: &mut [u8], buffer: &[u8], out: &mut [u8]) -> Console
+fn own_line(
+    was: Console,
+    size: usize,
+    file: &mut [u8],
+    mem: &mut [u16],
+    cells: &mut [u32],
+    figures: &mut [u32],
+    buffer: &[u8],
+    out: &mut [u8],
+) -> Console
     requires { ⌜ Kept (length (now file)) (length (now buffer)) was ⌝ }
     requires { ⌜ was .input .at + size < was .input .end ⌝ }
     ensures kept { λ r. ⌜ Kept (length (now (file .exit))) (length (now (buffer .entry))) r ⌝ }
     ensures obeys { λ r. ⌜ Obeyed (commandOf (take size (drop (was .input .at) (now (buffer .entry))))) (consoleFrom was (was .input .at + size + 1))
-        (now (file .entry)) (now (out .entry)) r (now (file .exit)) (now (out .exit)) ⌝ }
+        (now (file .entry)) (lentOf (now (mem .entry)) (now (cells .entry)) (now (figures .entry))) (now (out .entry))
+        r (now (file .exit)) (lentOf (now (mem .exit)) (now (cells .exit)) (now (figures .exit))) (now (out .exit)) ⌝ }
 {
-    let session = was.session;
+    let talk = was.talk;
     let input = was.input;
     let at = input.at;
     let stop = at + size;
     let next = Console {
-        session: session,
+        talk: talk,
         size: was.size,
         input: input.from(stop + 1),
         done: was.done,
     };
-    obey(next, &buffer[at..stop], file, out)
+    obey(next, &buffer[at..stop], file, mem, cells, figures, out)
 }
 
 // What is left of the input, with no newline, where it is too long for a line: it is answered once, and passed over.
@@ -146,17 +219,18 @@ fn refuse_long(was: Console, out: &mut [u8]) -> Console
     ensures size { λ r. ⌜ r .size ≡ was .size ⌝ }
     ensures refuses { λ r. ⌜ (r, now (out .exit)) ≡ refusedLong was (now (out .entry)) ⌝ }
 {
-    let session = was.session;
+    let talk = was.talk;
     let input = was.input;
     if input.end - input.at <= MOST_OF_LINE {
         return was;
     }
-    let state = session.state;
-    let sink = session.sink;
+    let run = talk.run;
+    let sink = talk.sink;
     let told = sink.put(out, b"?\n");
     Console {
-        session: Session {
-            state: state,
+        talk: Talk {
+            run: run,
+            lent: talk.lent,
             sink: told,
         },
         size: was.size,
@@ -175,14 +249,15 @@ fn wait(was: Console, buffer: &mut [u8], out: &mut [u8]) -> Console
         return finish(was);
     }
     let left = refuse_long(was, out);
-    let session = left.session;
-    let state = session.state;
-    let sink = session.sink;
+    let talk = left.talk;
+    let run = talk.run;
+    let sink = talk.sink;
     let input = left.input;
     let written = sink.flush(out);
     Console {
-        session: Session {
-            state: state,
+        talk: Talk {
+            run: run,
+            lent: talk.lent,
             sink: written,
         },
         size: left.size,
@@ -196,23 +271,33 @@ fn answer_lines(
     was: Console,
     file: &[u8],
     mem: &mut [u16],
+    cells: &[u32],
+    figures: &mut [u32],
     buffer: &[u8],
     out: &mut [u8],
 ) -> Console
     requires { ⌜ Kept (length (now file)) (length (now buffer)) was ⌝ }
     ensures kept { λ r. ⌜ Kept (length (now (file .entry))) (length (now (buffer .entry))) r ⌝ }
-    ensures serves { λ r. ⌜ Answered (whole was (now (file .entry)) (now (mem .entry)) (now (buffer .entry)) (now (out .entry))) r
-        (now (mem .exit)) (now (out .exit)) ⌝ }
+    ensures serves { λ r. ⌜ Answered (whole was (now (file .entry)) (lentOf (now (mem .entry)) (now (cells .entry)) (now (figures .entry))) (now (buffer .entry)) (now (out .entry))) r
+        (lentOf (now (mem .exit)) (now (cells .entry)) (now (figures .exit))) (now (out .exit)) ⌝ }
 {
-    let session = was.session;
+    let talk = was.talk;
     let size = was.size;
     let input = was.input;
     let at = input.at;
     let end = input.end;
-    let served = serving::serve(session, &buffer[at..end], &file[..size], mem, out);
-    let after = served.session;
+    let served = serving::serve(
+        talk,
+        &buffer[at..end],
+        &file[..size],
+        mem,
+        cells,
+        figures,
+        out,
+    );
+    let after = served.talk;
     Console {
-        session: after,
+        talk: after,
         size: size,
         input: input.from(at + served.at),
         done: was.done,
@@ -224,33 +309,37 @@ fn turn(
     was: Console,
     file: &mut [u8],
     mem: &mut [u16],
+    cells: &mut [u32],
+    figures: &mut [u32],
     buffer: &mut [u8],
     out: &mut [u8],
 ) -> Console
     requires { ⌜ Kept (length (now file)) (length (now buffer)) was ⌝ }
     ensures kept { λ r. ⌜ Kept (length (now (file .exit))) (length (now (buffer .exit))) r ⌝ }
-    ensures turns { λ r. ⌜ Turned (whole was (now (file .entry)) (now (mem .entry)) (now (buffer .entry)) (now (out .entry)))
-        (whole r (now (file .exit)) (now (mem .exit)) (now (buffer .exit)) (now (out .exit))) ⌝ }
+    ensures turns { λ r. ⌜ Turned (whole was (now (file .entry)) (lentOf (now (mem .entry)) (now (cells .entry)) (now (figures .entry))) (now (buffer .entry)) (now (out .entry)))
+        (whole r (now (file .exit)) (lentOf (now (mem .exit)) (now (cells .exit)) (now (figures .exit))) (now (buffer .exit)) (now (out .exit))) ⌝ }
 {
-    let left = answer_lines(was, file, mem, buffer, out);
+    let left = answer_lines(was, file, mem, cells, figures, buffer, out);
     let input = left.input;
     let size = input::line_size(input, buffer);
     if input.end - input.at <= size {
         return wait(left, buffer, out);
     }
-    own_line(left, size, file, buffer, out)
+    own_line(left, size, file, mem, cells, figures, buffer, out)
 }
 
-// The state of zeros, an empty plan file and no input.
+// The state of zeros without rounding, an empty plan file and no input.
 fn begin(mem: &mut [u16]) -> Console
     ensures begins { λ r. ⌜ r ≡ begun ⌝ }
     ensures memory { λ _. ⌜ now (mem .exit) ≡ now (mem .entry) ⌝ }
 {
     let none = opening::open(b"", 0, mem);
     let state = none.state;
+    let run = rounding::without_rounding(state);
     Console {
-        session: Session {
-            state: state,
+        talk: Talk {
+            run: run,
+            lent: 0,
             sink: Sink::written(),
         },
         size: 0,
@@ -265,17 +354,19 @@ fn run(
     first: Console,
     file: &mut [u8],
     mem: &mut [u16],
+    cells: &mut [u32],
+    figures: &mut [u32],
     buffer: &mut [u8],
     out: &mut [u8],
 ) -> Console
     requires { ⌜ Kept (length (now file)) (length (now buffer)) first ⌝ }
-    ensures { λ r. ⌜ Turns (whole first (now (file .entry)) (now (mem .entry)) (now (buffer .entry)) (now (out .entry)))
-        (whole r (now (file .exit)) (now (mem .exit)) (now (buffer .exit)) (now (out .exit))) ⌝ }
+    ensures { λ r. ⌜ Turns (whole first (now (file .entry)) (lentOf (now (mem .entry)) (now (cells .entry)) (now (figures .entry))) (now (buffer .entry)) (now (out .entry)))
+        (whole r (now (file .exit)) (lentOf (now (mem .exit)) (now (cells .exit)) (now (figures .exit))) (now (buffer .exit)) (now (out .exit))) ⌝ }
 {
     let mut now = first;
     let mut turns = u64::MAX;
     while turns > 0 {
-        now = turn(now, file, mem, buffer, out);
+        now = turn(now, file, mem, cells, figures, buffer, out);
         if now.done {
             turns = 0;
         } else {
@@ -285,15 +376,26 @@ fn run(
     now
 }
 
-// The buffer for plan files takes one byte more than the longest, so that a longer file is seen to be longer.
+// The buffer for plan files takes one byte more than the longest, and that for cells one cell more than a plan can have tokens, so that
+// a longer file is seen to be longer.
 fn main() {
     let mut file = [0u8; 32797];
     let mut mem = [0u16; 32768];
+    let mut cells = [0u32; 4097];
+    let mut figures = [0u32; 4097];
     let mut buffer = io::large_buffer();
     let mut out = io::large_buffer();
     let first = begin(&mut mem);
-    let last = run(first, &mut file, &mut mem, &mut buffer, &mut out);
-    let session = last.session;
-    let sink = session.sink;
+    let last = run(
+        first,
+        &mut file,
+        &mut mem,
+        &mut cells,
+        &mut figures,
+        &mut buffer,
+        &mut out,
+    );
+    let talk = last.talk;
+    let sink = talk.sink;
     sink.flush(&out);
 }

@@ -20,7 +20,7 @@ part-serve-end c = search needs
 
 slice-aggregate-serve : tie.Need-slice-aggregate-serve
 slice-aggregate-serve c =
-    let start = c .before .before .before .before .before .before .before .before in
+    let start = c .before .before .before .before .before .before .before .before .before .before in
     sym (length-take-le (start .args .was .size) (start .args .file .now) (start .pre .size))
 
 serve-requires : tie.Need-serve-requires
@@ -28,8 +28,8 @@ serve-requires c κs = search needs
 
 add-from : tie.Need-add-from
 add-from c =
-    let served = c .before .before .before .before .before .before in
-    let start = served .before .before .before .before .before .before .before .before .before .before .before in
+    let served = c .before .before .before .before .before .before .before .before in
+    let start = served .before .before .before .before .before .before .before .before .before .before .before .before .before .before in
     let part = laws.pending-length (start .args .was .input) (start .args .buffer .now) (start .pre .input) in
     omega (arith, served .serve .ensures .0, part, start .pre .input .at, start .pre .input .end)
 
@@ -42,10 +42,13 @@ same-length c = search needs
 same-length-2 : tie.Need-same-length-2
 same-length-2 c = search needs
 
+same-length-3 : tie.Need-same-length-3
+same-length-3 c = search needs
+
 returns : tie.Need-returns
 returns c =
-    let served = c .before .before .before .before .before .before .before in
-    let start = served .before .before .before .before .before .before .before .before .before .before .before in
+    let served = c .before .before .before .before .before .before .before .before .before in
+    let start = served .before .before .before .before .before .before .before .before .before .before .before .before .before .before in
     let input = start .args .was .input in
     let part = laws.pending-length input (start .args .buffer .now) (start .pre .input) in
     let both = served .serve .ensures .1 in (
@@ -57,10 +60,10 @@ returns c =
         });
       },
       record {
-        served = (served .serve .result .at, heldOf (served .serve .result .session) _ _);
+        served = (served .serve .result .at, heldOf (served .serve .result .talk) _ _ _ _);
         is-served = both;
-        console = ap (λ (i : Input). record { session = served .serve .result .session; size = start .args .was .size; input = i; done = start .args .was .done }) (c .from .ensures);
-        memory-is = refl;
+        console = ap (λ (i : Input). record { talk = served .serve .result .talk; size = start .args .was .size; input = i; done = start .args .was .done }) (c .from .ensures);
+        lent-is = refl;
         output-is = refl;
       },
     )
@@ -78,4 +81,5 @@ answer-lines-spec =
     from-requires
     same-length
     same-length-2
+    same-length-3
     returns)

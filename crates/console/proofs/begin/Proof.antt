@@ -12,6 +12,9 @@ slice-aggregate-open c = search needs
 open-requires : tie.Need-open-requires
 open-requires c κs = search needs
 
+without-rounding-requires : tie.Need-without-rounding-requires
+without-rounding-requires c κs = search needs
+
 written-requires : tie.Need-written-requires
 written-requires c κs = search needs
 
@@ -23,10 +26,10 @@ same-length c = search needs
 
 returns : tie.Need-returns
 returns c =
-    let at-open = c .before .before .before .before .before in
+    let at-open = c .before .before .before .before .before .before in
     let m = at-open .before .before .before .before .args .mem .now in
     let state = ap (λ (o : Opened). o .state) (at-open .«open» .ensures .0 ∙ laws.none-opened m) in
-    (rw (state, c .before .written .ensures, c .none .ensures), at-open .«open» .ensures .1 ∙ laws.none-written m)
+    (rw (c .before .before .without-rounding .ensures, state, c .before .written .ensures, c .none .ensures), at-open .«open» .ensures .1 ∙ laws.none-written m)
 
 pub begin-spec : {M : Type 1} → statement M
 begin-spec =
@@ -34,6 +37,7 @@ begin-spec =
     (tie.spec
     slice-aggregate-open
     open-requires
+    without-rounding-requires
     written-requires
     none-requires
     same-length

@@ -28,8 +28,14 @@ slice-aggregate-run-3 c = search needs
 slice-aggregate-run-4 : tie.Need-slice-aggregate-run-4
 slice-aggregate-run-4 c = search needs
 
+slice-aggregate-run-5 : tie.Need-slice-aggregate-run-5
+slice-aggregate-run-5 c = search needs
+
+slice-aggregate-run-6 : tie.Need-slice-aggregate-run-6
+slice-aggregate-run-6 c = search needs
+
 run-requires : tie.Need-run-requires
-run-requires c κs = laws.begun-kept (c .before .before .before .before .before .begin .ensures .0)
+run-requires c κs = laws.begun-kept (c .before .before .before .before .before .before .before .begin .ensures .0)
 
 slice-aggregate-flush : tie.Need-slice-aggregate-flush
 slice-aggregate-flush c = search needs
@@ -52,6 +58,8 @@ main-spec =
     slice-aggregate-run-2
     slice-aggregate-run-3
     slice-aggregate-run-4
+    slice-aggregate-run-5
+    slice-aggregate-run-6
     run-requires
     slice-aggregate-flush
     flush-requires

@@ -37,11 +37,20 @@ same-length c = search needs
 same-length-2 : tie.Need-same-length-2
 same-length-2 c = search needs
 
+same-length-3 : tie.Need-same-length-3
+same-length-3 c = search needs
+
+same-length-4 : tie.Need-same-length-4
+same-length-4 c = search needs
+
+same-length-5 : tie.Need-same-length-5
+same-length-5 c = search needs
+
 returns : tie.Need-returns
 returns c =
-    let at-obey = c .before .before .before .before in
-    let at-from = at-obey .before .before .before .before in
-    let start = at-from .before .before .before .before .before .before in
+    let at-obey = c .before .before .before .before .before .before .before .before .before .before in
+    let at-from = at-obey .before .before .before .before .before .before .before in
+    let start = at-from .before .before .before .before .before .before .before .before .before in
     let was = start .args .was in
     let part : was .input .at + start .args .size - was .input .at ≡ start .args .size = omega arith in
     let next = at-obey .obey .ensures .0 .1 ∙ at-from .from .ensures in (
@@ -50,8 +59,8 @@ returns c =
         input = rw next (record { at = omega (arith, start .pre .1); end = start .pre .0 .input .end });
       },
       laws.obeyed-as (ap (λ n. commandOf (take n (drop (was .input .at) (start .args .buffer .now)))) (sym part))
-          (ap (λ (i : Input). record { session = was .session; size = was .size; input = i; done = was .done }) (sym (at-from .from .ensures)))
-          refl (at-obey .obey .ensures .1),
+          (ap (λ (i : Input). record { talk = was .talk; size = was .size; input = i; done = was .done }) (sym (at-from .from .ensures)))
+          refl refl (at-obey .obey .ensures .1),
     )
 
 pub own-line-spec : {M : Type 1} → statement M
@@ -67,4 +76,7 @@ own-line-spec =
     obey-requires
     same-length
     same-length-2
+    same-length-3
+    same-length-4
+    same-length-5
     returns)

@@ -52,7 +52,7 @@ returns c =
       size = refl;
       input = refl;
       done = refl;
-      state = told .0;
+      run = told .0;
       output = rw (← at-numbers .fresh-numbers .ensures .1) (told .1 .1);
     }
 
