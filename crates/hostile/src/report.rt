@@ -32,7 +32,7 @@ pub fn opening_number(answer: Opening) -> u16 {
     why.number()
 }
 
-fn say_same(same: bool) {
+pub(crate) fn say_same(same: bool) {
     if same {
         io::write_all(STDOUT_FILENO, b" same");
     } else {

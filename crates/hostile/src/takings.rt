@@ -92,7 +92,7 @@ fn say_offered(run: Run, worker: u16, line: u16, short: bool) {
     );
 }
 
-fn stop_of(worker: u16, line: u16) -> Event {
+pub(crate) fn stop_of(worker: u16, line: u16) -> Event {
     Event::Stopped(Stop {
         line: Line(line),
         worker: Worker(worker),
@@ -100,7 +100,7 @@ fn stop_of(worker: u16, line: u16) -> Event {
 }
 
 // The finish of what the line's slot holds, whether it runs or not; of zeros for a line that no state has.
-fn finish_of(s: State, worker: u16, line: u16) -> Event {
+pub(crate) fn finish_of(s: State, worker: u16, line: u16) -> Event {
     let l = line as usize;
     let mut pipe = Pipe(0);
     let mut token = Token(0);

@@ -2,6 +2,7 @@
 //     c    worker W chooses line N, on the run at opening with these edits
 //     o    the plan is opened with W workers (N says nothing)
 //     e    an empty file is opened with W workers
+//     r    a choice of a run with rounding (rounding_tries.rt)
 // In capitals, C and O, with one number too few lent. On the run of each choice its offer is tried too, with the taking of what was
 // offered, and the takings of two events that are handed in whatever was offered (takings.rt).
 ghost use Prim.Native.Nat.{_≤_};
@@ -10,6 +11,7 @@ use crate::edits;
 use crate::report;
 use crate::report::Run;
 use crate::report::Trial;
+use crate::rounding_tries;
 use crate::stored;
 use crate::takings;
 use engine::Chosen;
@@ -103,6 +105,15 @@ fn tried(verb: u8, w: u16, n: u16, run: Run, file: &[u8]) -> Trial {
     }
 }
 
+// A try of a run with rounding.
+fn next_rounded(fd: i32, w: u16, n: u16, file: &[u8]) {
+    let lent = rounding_tries::read(fd);
+    let run = edits::spoiled(fd, opened(file));
+    stored::print_line(fd);
+    rounding_tries::tried(run, lent, w, n);
+    report::end();
+}
+
 // The next try, if there is one.
 pub fn next(fd: i32, file: &[u8]) -> bool {
     let verb = stored::byte(fd);
@@ -111,6 +122,10 @@ pub fn next(fd: i32, file: &[u8]) -> bool {
     }
     let w = stored::number(fd);
     let n = stored::number(fd);
+    if verb == b'r' {
+        next_rounded(fd, w, n, file);
+        return true;
+    }
     let run = edits::spoiled(fd, opened(file));
     let trial = tried(verb, w, n, run, file);
     stored::print_line(fd);
