@@ -417,11 +417,14 @@ fn refused(what: &str, number: u64, file: &[u8], workers: u16, lent: usize) -> O
     Ok(())
 }
 
+/// What is wrong, the number that it gets, and the damage.
+type Damage = (&'static str, u64, fn(&mut Lent));
+
 /// Bad pipes, bases, cells and figures: each gets its number and writes nothing.
 fn refused_roundings() -> Outcome {
     let pipes = vec![SERIAL, PARALLEL];
     let file = Plan { pipes, lines: 2, tokens: 5, records: vec![(1, vec![2, 3])] }.file();
-    let tries: [(&str, u64, fn(&mut Lent)); 9] = [
+    let tries: [Damage; 9] = [
         ("a pipe past the last", 16, |lent| lent.pipe = 2),
         ("a parallel pipe", 16, |lent| lent.pipe = 1),
         ("base 2", 17, |lent| lent.base = 2),
