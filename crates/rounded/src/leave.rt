@@ -56,15 +56,18 @@ pub(crate) fn fits(rounding: Rounding, tokens: u16, cells: &[u32], figures: usiz
     rounding::lent_fits(n as usize, cells, figures)
 }
 
-// Whether T stays within its limit if the line acts.
+// Whether T stays within its limit if the line acts. (A row is copied before it is indexed, which saves a copy of the state.)
 pub(crate) fn stays(rounding: Rounding, state: State, cells: &[u32], line: Line) -> bool
     ensures { λ r. ⌜ r ≡ leb (sumAfter (roundingOf rounding) (now (cells .entry)) (passerAt (roundingOf rounding) (slotsOf state) (line .0))) sumMost ⌝ }
 {
     let l = line.0 as usize;
     if l < SLOTS {
-        if state.running[l] {
-            let pipe = state.at[l];
-            let token = state.token[l];
+        let running = state.running;
+        if running[l] {
+            let at = state.at;
+            let pipe = at[l];
+            let tokens = state.token;
+            let token = tokens[l];
             return rounding::stays(rounding, pipe, token, cells);
         }
     }

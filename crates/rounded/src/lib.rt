@@ -39,17 +39,16 @@ fn settled(rounding: Rounding, chosen: engine::Chosen, cells: &[u32], figures: &
 {
     let answer = chosen.answer;
     let state = chosen.state;
+    let mut after = rounding;
     match rounding::settle(rounding, answer, cells, figures) {
-        Settled::Done(after) => Chosen {
-            answer,
-            run: Run {
-                state,
-                rounding: after,
-            },
-        },
-        Settled::Spoiled => Chosen {
-            answer,
-            run: Run { state, rounding },
+        Settled::Done(next) => after = next,
+        Settled::Spoiled => {}
+    }
+    Chosen {
+        answer,
+        run: Run {
+            state,
+            rounding: after,
         },
     }
 }
@@ -78,8 +77,8 @@ pub fn choose_rounded(
         chooseRounded memorySource (runOf run (now (mem .entry))) (lent (worker .0) (line .0) (now (cells .entry)) (now (figures .entry))) ⌝ }
 {
     let rounding = run.rounding;
-    let state = run.state;
-    if !rounding::in_range(rounding, state.pipes, &state.serial) {
+    let serial = run.state.serial;
+    if !rounding::in_range(rounding, run.state.pipes, &serial) {
         return Chosen {
             answer: Answer::Refused(Refusal::Spoiled),
             run,
@@ -88,6 +87,7 @@ pub fn choose_rounded(
     let many = figures.len();
     let leave = leave_for(run, cells, many, line);
     let why = leave.why;
+    let state = run.state;
     let chosen = engine::choose_if(state, mem, worker, line, leave.given, why);
     settled(rounding, chosen, cells, figures)
 }

@@ -30,7 +30,7 @@ returns-2 : tie.Need-returns-2
 returns-2 c =
     let at-settled = c .before .before in
     let at-choose = at-settled .before .before .before .before in
-    let at-leave = at-choose .before .before in
+    let at-leave = at-choose .before .before .before in
     let at-range = at-leave .before .before in
     calls.chosen _ _ _ _ _ _ (at-range .in-range .ensures) (not-false _ (at-leave .before .if1 .left)) (at-leave .leave-for .ensures) _ _ (at-choose .choose-if .ensures) _ _
     (at-settled .settled .ensures _)

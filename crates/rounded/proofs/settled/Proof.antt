@@ -12,8 +12,8 @@ use Rattle.rounded.proofs.settled.Tie as tie
 settle-requires : tie.Need-settle-requires
 settle-requires c κs = search needs
 
-enum-known-after : tie.Need-enum-known-after
-enum-known-after c = search needs
+enum-known-next : tie.Need-enum-known-next
+enum-known-next c = search needs
 
 enum-told : tie.Need-enum-told
 enum-told c = search needs
@@ -27,7 +27,7 @@ returns c m =
     let at-settle = c .before .before .before .before .before in
     let args = at-settle .before .before .before .before .before .args in
     ap (joined (chosenBy (args .chosen) m) (roundingOf (args .rounding)))
-    (ap (λ s. settledOf s (at-settle .settle .last .1 .1 .1 .0)) (sym (c .before .after .given .1)) ∙ at-settle .settle .ensures)
+    (ap (λ s. settledOf s (at-settle .settle .last .1 .1 .1 .0)) (sym (c .before .next .given .1)) ∙ at-settle .settle .ensures)
 
 same-length-2 : tie.Need-same-length-2
 same-length-2 c = search needs
@@ -45,7 +45,7 @@ settled-spec =
     tie.close
     (tie.spec
     settle-requires
-    enum-known-after
+    enum-known-next
     enum-told
     same-length
     returns

@@ -16,20 +16,20 @@ use Rattle.rounding.proofs.stays.Reads as stays-reads
 cast-l : tie.Need-cast-l
 cast-l c = search needs
 
-element-copy-out-if2 : tie.Need-element-copy-out-if2
-element-copy-out-if2 c = search needs
+array-read-if2 : tie.Need-array-read-if2
+array-read-if2 c = search needs
 
 mul-pipe : tie.Need-mul-pipe
 mul-pipe c = search needs
 
-element-copy-out-pipe : tie.Need-element-copy-out-pipe
-element-copy-out-pipe c = search needs
+array-copy-out-pipe : tie.Need-array-copy-out-pipe
+array-copy-out-pipe c = search needs
 
 mul-token : tie.Need-mul-token
 mul-token c = search needs
 
-element-copy-out-token : tie.Need-element-copy-out-token
-element-copy-out-token c = search needs
+array-copy-out-token : tie.Need-array-copy-out-token
+array-copy-out-token c = search needs
 
 stays-requires : tie.Need-stays-requires
 stays-requires c κs = search needs
@@ -37,11 +37,11 @@ stays-requires c κs = search needs
 returns : tie.Need-returns
 unfolding slotAt
 returns c =
-    let runs = c .before .before .before in
+    let runs = c .before .before .before .before .before in
     let at-if1 = runs .before .before in
     let args = at-if1 .before .before .before .args in
     c .stays .ensures ∙
-    laws.stays-runs (roundingOf (args .rounding)) (args .cells .now) (slotsOf (args .t2)) (args .line .0) (at-if1 .if1 .taken) (runs .if2 .taken)
+    laws.stays-runs (roundingOf (args .rounding)) (args .cells .now) (slotsOf (args .state)) (args .line .0) (at-if1 .if1 .taken) (runs .if2 .taken)
 
 returns-2 : tie.Need-returns-2
 unfolding slotAt
@@ -49,8 +49,8 @@ returns-2 c =
     let at-if1 = c .before in
     let args = at-if1 .before .before .before .args in
     elim (at-if1 .if1 .came) [
-      | inl w ↦ laws.stays-waits (roundingOf (args .rounding)) (args .cells .now) (slotsOf (args .t2)) (args .line .0) (w .0 .taken) (w .2 .left)
-      | inr w ↦ laws.stays-out (roundingOf (args .rounding)) (args .cells .now) (slotsOf (args .t2)) (args .line .0) (omega (arith, w .left))
+      | inl w ↦ laws.stays-waits (roundingOf (args .rounding)) (args .cells .now) (slotsOf (args .state)) (args .line .0) (w .0 .taken) (w .2 .left)
+      | inr w ↦ laws.stays-out (roundingOf (args .rounding)) (args .cells .now) (slotsOf (args .state)) (args .line .0) (omega (arith, w .left))
     ]
 
 pub stays-spec : {M : Type 1} → statement M
@@ -58,11 +58,11 @@ stays-spec =
     tie.close
     (tie.spec
     cast-l
-    element-copy-out-if2
+    array-read-if2
     mul-pipe
-    element-copy-out-pipe
+    array-copy-out-pipe
     mul-token
-    element-copy-out-token
+    array-copy-out-token
     stays-requires
     returns
     returns-2)
