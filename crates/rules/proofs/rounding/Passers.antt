@@ -1,21 +1,23 @@
 -- The tokens whose cells pass, by the answers.
 use mathlib.Core.Path.{_≡_, refl, sym, ap, _∙_}
 use mathlib.Core.Bool.{true, not}
-use mathlib.Core.List.{List, [], _∷_, _++_}
-use Prim.Native.Nat.{ℕ, _≤_}
+use mathlib.Core.List.{List, [], _∷_, _++_, append-assoc}
+use Prim.Native.Nat.{ℕ, _≤_, _<_}
 use native.Mathlib.Omega.{arith}
 use lib.Dec.{eqb}
-use lib.ListN.{length, length-append}
+use lib.ListN.{length, getD, length-append}
+use lib.Seq.{getD-append-seam}
 use borrow.Author.Tests.{eq-eqb}
 use Rattle.rules.specs.Lists.{keep}
 use Rattle.rules.specs.RunState.{Pipeline}
 use Rattle.rules.specs.Sources.{Source}
-use Rattle.rules.specs.Choices.{Choice, Answer, Refused, ended}
+use Rattle.rules.specs.Choices.{Choice, Answer, Refused, opened, chooseBy, ended}
 use Rattle.rules.specs.WholeRuns.{PipelineInRange, WorkersInRange, Sheet, events, end}
 use Rattle.rules.specs.MoreWorkers.{withoutRefusals}
 use Rattle.rules.specs.Rounding.{isBase, Rounding, withSum, Passing, NonePasses, Passes, finisher, passing}
 use Rattle.rules.specs.RoundedRuns.{AtOpening, without, rounds, addFinisher, finishersAt}
 use Rattle.rules.proofs.lists.Tests.{same, other, sameAs, never, if-same}
+use Rattle.rules.proofs.choices.Joined.{answers-one}
 use Rattle.rules.proofs.runs.Finishers.{finishers-part, finishers-whole}
 use Rattle.rules.proofs.runs.AcceptedOnly.{event, refusal, kind}
 use Rattle.rules.proofs.rounding.Choice.{refused-finisher}
@@ -110,3 +112,27 @@ module _ {X : Type 0} {S : Source X} {plan : Pipeline} (ranged : PipelineInRange
   passers-few {r} h =
       let q = passers-part h in
       omega (arith, ap length (q .1), length-append (passersOf r (events S plan workers x ls)) (q .0))
+
+-- a token passes by a choice only when it is the sheet's next there
+module _ {X : Type 0} {S : Source X} {plan : Pipeline} (ranged : PipelineInRange plan)
+    {workers : ℕ} (manned : WorkersInRange workers) {x : X} {order : List ℕ} {z : X}
+    (sheet : Sheet S plan x order z) {r : Rounding} (opens : AtOpening plan r) (cs : List Choice) (c : Choice) (t : ℕ)
+    (e : passing r (chooseBy S (end S plan workers x cs) c .answer) ≡ Passes t) where
+  abbrev passed : List ℕ
+  passed = passersOf r (events S plan workers x cs)
+
+  pub passers-more : passersOf r (events S plan workers x (cs ++ (c ∷ []))) ≡ passed ++ (t ∷ [])
+  passers-more = ap (passersOf r) (answers-one S (opened plan workers x) cs c) ∙ rw (passers-one, e)
+
+  sheet-so : (rest : List ℕ) × (passed ++ (t ∷ rest) ≡ order)
+  sheet-so =
+      let (rest, part) = passers-part ranged manned sheet (cs ++ (c ∷ [])) opens in
+      (rest, sym (append-assoc passed (t ∷ []) rest) ∙ ap (λ (l : List ℕ). l ++ rest) (sym passers-more) ∙ part)
+
+  pub next-passes : getD order (length passed) 0 ≡ t
+  next-passes =
+      let (rest, whole) = sheet-so in
+      ap (λ (l : List ℕ). getD l (length passed) 0) (sym whole) ∙ getD-append-seam passed t rest 0
+
+  pub next-there : length passed < length order
+  next-there = let (rest, whole) = sheet-so in omega (arith, ap length whole, length-append passed (t ∷ rest))

@@ -1,12 +1,11 @@
 -- A choice in a run with rounding: it is refused, not with 14, or goes on as it would without rounding, and a cell may pass by it.
 use mathlib.Core.Path.{_≡_, refl, sym, ap, _∙_}
-use mathlib.Core.Bool.{Bool, true, false, not}
-use mathlib.Core.List.{List, [], _∷_, _++_, append-assoc}
+use mathlib.Core.Bool.{true, false, not}
+use mathlib.Core.List.{List, [], _∷_, _++_}
 use Prim.Native.Nat.{ℕ, _+_, _*_, _≤_, _<_}
 use native.Mathlib.Omega.{arith}
 use lib.Dec.{leb}
 use lib.ListN.{length, getD, set, length-append, List·getD-eq-default}
-use lib.Seq.{getD-append-seam}
 use borrow.Author.Tests.{leb-true, le-leb, lt-ltb, eq-eqb, ne-eqb}
 use Rattle.rules.specs.Lists.{every, Every}
 use Rattle.rules.specs.Sources.{Source}
@@ -18,17 +17,14 @@ use Rattle.rules.specs.Rounding.{rise, cellMost, sumMost, isRoundingPipe
 use Rattle.rules.specs.Rounding.{NonePasses, Passes, passing, Run, Lending, RoundedChosen, refuseWith, accept, chooseRounded}
 use Rattle.rules.specs.RoundedRuns.{AtOpening, without, rounds}
 use Rattle.rules.proofs.lists.Tests.{same, other, sameAs, lower, upper, below, holds, fails, see, never}
-use Rattle.rules.proofs.lists.EveryBelow.{every-fails}
+use Rattle.rules.proofs.lists.Holding.{every-at}
 use Rattle.rules.proofs.choices.Joined.{follow-one, answers-one}
 use Rattle.rules.proofs.invariant.Invariant.{whole}
 use Rattle.rules.proofs.runs.WholeRuns.{whole-run, run, left-is}
 use Rattle.rules.proofs.rounding.Choice.{sumThen, Fits, spoiled, own, unfit, too-much, accepts, case}
-use Rattle.rules.proofs.rounding.Passers.{nobody, someone, seen, passersOf, passing-with, passers-one, passers-part, passers-few, passers-none, passing-some, base-some}
+use Rattle.rules.proofs.rounding.Passers.{nobody, someone, seen, passersOf, passing-with, passers-one, passers-few, passers-none, passing-some, base-some, passers-more, next-passes, next-there}
 
 -- of cells and figures that fit: how many there are, and no cell is too large
-pub every-at : (n : ℕ) (f : ℕ → Bool) → every n f ≡ true → (i : ℕ) → i < n → f i ≡ true
-every-at n f h i b = elim (see (f i)) [ holds e ↦ e | fails e ↦ absurd (never (sym h ∙ sym (every-fails f n i b e))) ]
-
 pub fits-parts : (n : ℕ) (cells figures : List ℕ) → lentFits n cells figures ≡ true →
     (length cells ≡ n) × (length figures ≡ n) × (cellsFit cells ≡ true)
 unfolding lentFits
@@ -43,7 +39,7 @@ fits-parts n cells figures h = elim (sameAs (length cells) n) [
 pub fits-cell : (cells : List ℕ) → cellsFit cells ≡ true → (t : ℕ) → getD cells t 0 ≤ cellMost
 unfolding cellsFit
 fits-cell cells h t = elim (below t (length cells)) [
-  | lower b u ↦ leb-true _ _ (every-at (length cells) (λ i. leb (getD cells i 0) cellMost) h t b)
+  | lower b u ↦ leb-true _ _ (every-at (length cells) t (λ i. leb (getD cells i 0) cellMost) b h)
   | upper b u ↦ rw (List·getD-eq-default cells 0 b) (omega arith)
 ]
 
@@ -136,17 +132,13 @@ module _ {X : Type 0} {S : Source X} {plan : Pipeline} (ranged : PipelineInRange
 
     -- a token passes
     module _ (t : ℕ) (e : passing r (bare .answer) ≡ Passes t) where
-      passers-more : passersOf r (told one) ≡ passersOf r (told ls) ++ (t ∷ [])
-      passers-more = rw (told-one, passers-one, e)
+      more : passersOf r (told one) ≡ passersOf r (told ls) ++ (t ∷ [])
+      more = passers-more ranged manned sheet opens ls (a .choice) t e
 
       known : t < plan .tokens
       known =
-          let ps : List ℕ = passersOf r (told ls) in
-          let q = passers-part ranged manned sheet one opens in
-          let o : ps ++ (t ∷ q .0) ≡ order = sym (append-assoc ps (t ∷ []) (q .0)) ∙ ap (λ (l : List ℕ). l ++ q .0) (sym passers-more) ∙ q .1 in
-          let h : length ps < length order = omega (arith, ap length o, length-append ps (t ∷ q .0)) in
-          let at-end : getD order (length ps) 0 ≡ t = ap (λ (l : List ℕ). getD l (length ps) 0) (sym o) ∙ getD-append-seam ps t (q .0) 0 in
-          omega (arith, sheet .known (length ps) h, at-end)
+          let h = next-there ranged manned sheet opens ls (a .choice) t e in
+          omega (arith, sheet .known (length (passersOf r (told ls))) h, next-passes ranged manned sheet opens ls (a .choice) t e)
 
       sum-more : sumThen S (at ls sum) a ≡ sum + getD (a .cells) t 0
       sum-more = rw (passing-with, e)
@@ -155,7 +147,7 @@ module _ {X : Type 0} {S : Source X} {plan : Pipeline} (ranged : PipelineInRange
         few-more : Few one (sum + getD (a .cells) t 0)
         few-more =
             let c : getD (a .cells) t 0 ≤ cellMost = fits-cell (a .cells) (fits-parts _ (a .cells) (a .figures) f .2) t in
-            rw passers-more (omega (arith, few, c, length-append (passersOf r (told ls)) (t ∷ [])))
+            rw more (omega (arith, few, c, length-append (passersOf r (told ls)) (t ∷ [])))
 
         most-more : sum + getD (a .cells) t 0 ≤ sumMost
         most-more = omega (arith, few-more, passers-few ranged manned sheet one opens, sheet .fits, ranged .tokens-most)

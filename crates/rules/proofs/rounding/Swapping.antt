@@ -1,24 +1,22 @@
 -- Two choices on different lines, from a state of an opened run with rounding, accepted in both orders, do the same in either.
 use mathlib.Core.Path.{_≡_, refl, sym, ap, subst, _∙_}
-use mathlib.Core.List.{List, [], _∷_, _++_, append-assoc}
+use mathlib.Core.List.{List, [], _∷_}
 use Prim.Native.Nat.{ℕ}
 use native.Mathlib.Omega.{arith}
 use lib.Dec.{eqb}
 use lib.ListN.{length, getD}
-use lib.Seq.{getD-append-seam}
 use Rattle.rules.specs.Lists.{if, Every}
 use Rattle.rules.specs.Sources.{Source}
 use Rattle.rules.specs.RunState.{Pipeline, Machine}
 use Rattle.rules.specs.Choices.{Choice, Answer, Chosen, opened, chooseBy, answers, follow}
-use Rattle.rules.specs.WholeRuns.{PipelineInRange, WorkersInRange, Sheet, Accepted, events, end}
+use Rattle.rules.specs.WholeRuns.{PipelineInRange, WorkersInRange, Sheet, Accepted, events}
 use Rattle.rules.specs.Swapping.{Swapped, Swapping}
 use Rattle.rules.specs.Rounding.{Rounding, withSum, Passing, NonePasses, Passes, finisher, passing, sumAfter, figuresAfter}
 use Rattle.rules.specs.Rounding.{Run, Lending, RoundedChosen, accept, answersRounded, followRounded}
 use Rattle.rules.specs.RoundedRuns.{AtOpening, handedOn, figuresLeft, roundedEnd, roundedChoices, RoundedRun}
 use Rattle.rules.specs.RoundedSwapping.{madeFirst, madeAfter, SwappedRounded, SwappingRounded}
-use Rattle.rules.proofs.choices.Joined.{answers-one}
 use Rattle.rules.proofs.runs.Swapping.{swapping}
-use Rattle.rules.proofs.rounding.Passers.{passersOf, passing-with, passers-one, passers-part}
+use Rattle.rules.proofs.rounding.Passers.{passersOf, passing-with, next-passes}
 use Rattle.rules.proofs.rounding.Accepting.{accepted-is}
 use Rattle.rules.proofs.rounding.RoundedRuns.{rounded-run}
 
@@ -139,17 +137,6 @@ passing-by r q e f a = λ i. if (eqb (f i) 0) NonePasses (finisher (e i) a)
 module _ {X : Type 0} {S : Source X} {plan : Pipeline} (ranged : PipelineInRange plan)
     {workers : ℕ} (manned : WorkersInRange workers) {x : X} {order : List ℕ} {z : X}
     (sheet : Sheet S plan x order z) {r : Rounding} (opens : AtOpening plan r) where
-  -- a token passes by a choice only when it is the sheet's next there
-  next-passes : (cs : List Choice) (c : Choice) (t : ℕ) → passing r (chooseBy S (end S plan workers x cs) c .answer) ≡ Passes t →
-      getD order (length (passersOf r (events S plan workers x cs))) 0 ≡ t
-  next-passes cs c t e =
-      let before : List ℕ = passersOf r (events S plan workers x cs) in
-      let more : passersOf r (events S plan workers x (cs ++ (c ∷ []))) ≡ before ++ (t ∷ []) =
-      ap (passersOf r) (answers-one S (opened plan workers x) cs c) ∙ rw (passers-one, e) in
-      let (rest, part) = passers-part ranged manned sheet (cs ++ (c ∷ [])) opens in
-      let whole : before ++ (t ∷ rest) ≡ order = sym (append-assoc before (t ∷ []) rest) ∙ ap (λ (l : List ℕ). l ++ rest) (sym more) ∙ part in
-      ap (λ (l : List ℕ). getD l (length before) 0) (sym whole) ∙ getD-append-seam before t rest 0
-
   -- "from a state of an opened run", with rounding or without: what an opening and any list of choices leave, whatever is lent to each
   module _ (lendings : List Lending) where
     abbrev here : Run X
@@ -165,7 +152,7 @@ module _ {X : Type 0} {S : Source X} {plan : Pipeline} (ranged : PipelineInRange
     next-here : (c : Choice) (t : ℕ) → passing (here .rounding) (chooseBy S (here .machine) c .answer) ≡ Passes t →
         getD order (length (passersOf r (events S plan workers x chosen))) 0 ≡ t
     next-here c t e =
-        next-passes chosen c t (ap (λ (m : Machine X). passing r (chooseBy S m c .answer)) (sym (run .machine-is)) ∙
+        next-passes ranged manned sheet opens chosen c t (ap (λ (m : Machine X). passing r (chooseBy S m c .answer)) (sym (run .machine-is)) ∙
         sym (passing-by (here .rounding) r (run .pipe-kept) (run .base-kept) _) ∙ e)
 
     bare-swapping : Swapping S (here .machine)
