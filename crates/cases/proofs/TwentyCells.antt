@@ -20,7 +20,7 @@ use Rattle.rules.proofs.lists.Places.{at-place}
 use Rattle.rules.proofs.lists.Counting.{members}
 use Rattle.rules.proofs.sheet.PlainSheet.{sheet-writes, sheet-short, sheet-distinct, sheet-below}
 use Rattle.rules.proofs.runs.WholeRuns.{one-worker-ends}
-use Rattle.rules.proofs.rounding.Steps.{every-at}
+use Rattle.rules.proofs.lists.Holding.{every-at}
 use Rattle.rules.proofs.rounding.CarriedRuns.{carried-run}
 use Rattle.cases.specs.TwentyCells.{source, plan, toFive, twenty, carried, Ends, sumAtEnd, figures, TwentyCells}
 
@@ -97,9 +97,9 @@ module _ {workers : ℕ} (manned : WorkersInRange workers) (ls : List Choice) wh
     unfolding lentCount
     figures-carried = ext-getD 0 (figures workers ls) carried (run .size) (λ k h.
         let b : k < 20 = omega (arith, run .size) in
-        ap (λ t. getD (figures workers ls) t 0) (sym (eqb-true _ _ (every-at 20 (λ k. eqb (getD order k 0) k) in-place k b))) ∙
+        ap (λ t. getD (figures workers ls) t 0) (sym (eqb-true _ _ (every-at 20 k (λ k. eqb (getD order k 0) k) b in-place))) ∙
         run .figure-is k (omega (arith, all-twenty)) ∙
-        eqb-true _ _ (every-at 20 (λ k. eqb (ruled k) (getD carried k 0)) as-ruled k b))
+        eqb-true _ _ (every-at 20 k (λ k. eqb (ruled k) (getD carried k 0)) b as-ruled))
 
 one : WorkersInRange 1
 one = record { some = omega arith; most = omega arith }
