@@ -1,4 +1,6 @@
 // What the console answers to a command, one line each, on byte slices. Nothing here trusts its caller.
+#![tactic(auto)]
+
 mod choices;
 mod lines;
 
@@ -19,7 +21,7 @@ use rounding::Run;
 use sink::Sink;
 
 // A run that goes on, with how many cells and figures are lent to it; and where its output goes.
-#[derive(Drop)]
+#[derive(Clone, Copy)]
 pub struct Talk {
     pub run: Run,
     pub lent: usize,

@@ -1,4 +1,6 @@
 // The cells that a file holds: its whole four-byte numbers, low byte first.
+#![tactic(auto)]
+
 ghost use Rattle.std.specs.Prelude.{◌≡◌, ◌++◌, ◌+◌, ◌<◌, ◌≤◌, length, take, drop};
 ghost use Rattle.cells.specs.Cells.{cell_at, cells_in};
 

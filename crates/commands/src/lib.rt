@@ -1,4 +1,6 @@
 // The console's commands: what a line asks for.
+#![tactic(auto)]
+
 mod numbers;
 mod opening;
 mod taking;
@@ -12,14 +14,14 @@ use vocabulary::{Event, Line, Pipe, Worker};
 use words::ShortNumber;
 
 // A choice names a worker and a line.
-#[derive(Drop)]
+#[derive(Clone, Copy)]
 pub struct Choice {
     pub worker: Worker,
     pub line: Line,
 }
 
 // A run to open with rounding: its workers, the pipe that rounds and its base, and the start of the path of its cells.
-#[derive(Drop)]
+#[derive(Clone, Copy)]
 pub struct RoundingAt {
     pub workers: u16,
     pub pipe: Pipe,
@@ -28,14 +30,14 @@ pub struct RoundingAt {
 }
 
 // A journal to mark: the workers of its run, and the start of its path.
-#[derive(Drop)]
+#[derive(Clone, Copy)]
 pub struct JournalAt {
     pub workers: u16,
     pub start: usize,
 }
 
 // A path is told by its start in the line; it is the rest of the line.
-#[derive(Drop)]
+#[derive(Clone, Copy)]
 pub enum Command {
     Plan(usize),
     Open(u16),

@@ -5,21 +5,21 @@ ghost use Rattle.commands.specs.Arguments.{words_in, pair_of, pair_in, step_of, 
 use vocabulary::{Line, Pipe, Place, Step, Token, Worker};
 use words::ShortNumber;
 
-#[derive(Drop)]
+#[derive(Clone, Copy)]
 pub struct Two {
     pub first: u16,
     pub second: u16,
 }
 
 // Two numbers, or not.
-#[derive(Drop)]
+#[derive(Clone, Copy)]
 pub enum Pair {
     Values(Two),
     Missing,
 }
 
 // The numbers of a start or a finish, or not.
-#[derive(Drop)]
+#[derive(Clone, Copy)]
 pub enum StepNumbers {
     Values(Step),
     Missing,

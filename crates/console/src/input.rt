@@ -9,7 +9,7 @@ const NEWLINE: u8 = 10;
 
 // The input that is not served yet, from `at` up to `end`; whether the rest of a line that is too long is passed over; and whether the
 // input has ended.
-#[derive(Drop)]
+#[derive(Clone, Copy)]
 pub struct Input {
     pub at: usize,
     pub end: usize,

@@ -1,5 +1,7 @@
 // The console: reads commands from standard input, a line each, and answers each with a line on standard output. Answers are written
 // out before more input is read.
+#![tactic(auto)]
+
 mod files;
 mod input;
 
@@ -16,7 +18,7 @@ use printing::Sink;
 
 // What the console keeps beside its buffers: the run and its output, the plan file's size, which input is not served yet, and whether
 // all is done.
-#[derive(Drop)]
+#[derive(Clone, Copy)]
 pub struct Console {
     pub talk: Talk,
     pub size: usize,

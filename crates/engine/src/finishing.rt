@@ -13,7 +13,7 @@ use tables::{Released, Tables};
 use vocabulary::{Answer, Line, Pipe, Place, Refusal, Slot, Step, Token, Worker};
 
 // The counters that fall, and whether they can: none goes below 0.
-#[derive(Drop)]
+#[derive(Clone, Copy)]
 pub struct Falls {
     pub ok: bool,
     pub first: Cell,

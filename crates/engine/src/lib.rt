@@ -1,4 +1,6 @@
 // The engine: each choice moves a run on; an offer tells what it would answer, and an event that was offered can be taken.
+#![tactic(auto)]
+
 mod finishing;
 mod offering;
 mod starting;
@@ -22,7 +24,7 @@ use turn::{Move, Turn};
 use vocabulary::{Answer, Line, Refusal, Slot, Slots, Worker};
 
 // What a choice returns: its answer, and the state after it.
-#[derive(Drop)]
+#[derive(Clone, Copy)]
 pub struct Chosen {
     pub answer: Answer,
     pub state: State,

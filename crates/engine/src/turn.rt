@@ -3,14 +3,14 @@ use tables::Tables;
 use vocabulary::{Answer, Refusal, Slot};
 
 // A counter's place among all counters, and its new value.
-#[derive(Drop)]
+#[derive(Clone, Copy)]
 pub struct Cell {
     pub at: usize,
     pub value: u8,
 }
 
 // What an accepted choice answers, and what it changes: two counters (or one, twice), the line's slot, and the numbers.
-#[derive(Drop)]
+#[derive(Clone, Copy)]
 pub struct Change {
     pub answer: Answer,
     pub first: Cell,
@@ -21,14 +21,14 @@ pub struct Change {
     pub tables: Tables,
 }
 
-#[derive(Drop)]
+#[derive(Clone, Copy)]
 pub enum Turn {
     Refused(Refusal),
     Made(Change),
 }
 
 // What the checks of a choice come to: it is refused, or the line starts or finishes the pipe of its slot.
-#[derive(Drop)]
+#[derive(Clone, Copy)]
 pub enum Move {
     Refused(Refusal),
     Start(Slot),

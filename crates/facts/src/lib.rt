@@ -1,4 +1,6 @@
 // What the tables in lent memory say of one token.
+#![tactic(auto)]
+
 mod tokens;
 
 ghost use Rattle.std.specs.Prelude.{◌≡◌};

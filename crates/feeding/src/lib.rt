@@ -1,4 +1,6 @@
 // Choices fed to a session: each moves the run on, and its answer is printed. Nothing here trusts its caller.
+#![tactic(auto)]
+
 ghost use Rattle.std.specs.Prelude.{◌≡◌};
 ghost use Rattle.rules.specs.Choices.{choices_in, choose as chosenBy, answers, follow};
 ghost use Rattle.tables.specs.Calls.{memory_source};

@@ -1,4 +1,6 @@
 // Two-byte fields of a part of a file, low byte first. A crate apart from `plan`, whose must-fail edits would each check it again.
+#![tactic(auto)]
+
 ghost use Rattle.std.specs.Prelude.{◌≡◌, ◌+◌, ◌<◌, length};
 ghost use Rattle.fields.specs.Bytes.{field_at, field_in};
 

@@ -1,5 +1,7 @@
 // Calls the engine on states and memory that no run leaves, and prints what it answers and whether state and memory are as before.
 // What it tries is in data/tries.txt; what it must print is written by hand, from documents 01 and 02 and the ranges of docs/LAYOUT.md.
+#![tactic(auto)]
+
 mod compare;
 mod edits;
 mod report;

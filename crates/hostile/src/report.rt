@@ -5,14 +5,14 @@ use state::State;
 use vocabulary::Answer;
 
 // A state with its memory.
-#[derive(Drop)]
+#[derive(Clone, Copy)]
 pub struct Run {
     pub state: State,
     pub mem: [u16; 32768],
 }
 
 // The answer's number, and whether state and memory are as before.
-#[derive(Drop)]
+#[derive(Clone, Copy)]
 pub struct Trial {
     pub number: u16,
     pub state: bool,

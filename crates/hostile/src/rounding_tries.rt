@@ -11,7 +11,7 @@ use rounding::Rounding;
 use vocabulary::{Answer, Event, Line, Pipe, Worker};
 
 // The rounding of a run, the cells, and how many cells and figures are lent.
-#[derive(Drop)]
+#[derive(Clone, Copy)]
 pub struct Lent {
     pub rounding: Rounding,
     pub cells: [u32; 4],
@@ -20,7 +20,7 @@ pub struct Lent {
 }
 
 // A run with its rounding and its memory.
-#[derive(Drop)]
+#[derive(Clone, Copy)]
 struct Handed {
     run: rounding::Run,
     mem: [u16; 32768],

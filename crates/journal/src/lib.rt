@@ -1,4 +1,6 @@
 // Marking a whole journal: a lent slice of event records, read by this one walk.
+#![tactic(auto)]
+
 ghost use Rattle.std.specs.Prelude.{◌≡◌};
 ghost use Rattle.marking.specs.Marking.{verdict_of, walked, mark_of, left_memory};
 

@@ -1,4 +1,6 @@
 // Marking a journal that stands in a file.
+#![tactic(auto)]
+
 ghost use Rattle.std.specs.Prelude.{◌≡◌, ◌+◌, ◌≤◌, length, drop};
 ghost use Rattle.marking.specs.Marking.{verdict_of, walked, mark_of, left_memory};
 ghost use Rattle.journal_file.specs.Records.{record_in, records_in};

@@ -1,5 +1,7 @@
 // Marks journals that are arrays of event records, and prints what marking says of each. What it must print is written by hand, from
 // documents 01 and 02.
+#![tactic(auto)]
+
 mod choices;
 mod lent;
 mod report;

@@ -1,4 +1,6 @@
 // Loading a plan: its file is read, and its records are laid out in lent memory.
+#![tactic(auto)]
+
 mod layout;
 
 ghost use Rattle.std.specs.Prelude.{◌≡◌};

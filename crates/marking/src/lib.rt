@@ -1,4 +1,6 @@
 // Marking a journal, events that were written down without the choices that gave them: how it begins, one event, and how it ends.
+#![tactic(auto)]
+
 ghost use Rattle.std.specs.Prelude.{◌≡◌, not, [], ◌∷◌};
 ghost use Rattle.rules.specs.Answers.{answer_of};
 ghost use Rattle.rules.specs.Journals.{CorrectSoFar, Wrong, goes_on, closing, unless_refused, mark_more};
@@ -11,7 +13,7 @@ use state::State;
 use vocabulary::{Answer, EventRecord, Refusal};
 
 // What marking says.
-#[derive(Drop)]
+#[derive(Clone, Copy)]
 pub enum Marking {
     // the rules give every event, and they end the run
     Complete,
@@ -24,7 +26,7 @@ pub enum Marking {
 }
 
 // How far marking has come: what it says of the events so far, and the state that the accepted ones left.
-#[derive(Drop)]
+#[derive(Clone, Copy)]
 pub struct Progress {
     pub marking: Marking,
     pub state: State,

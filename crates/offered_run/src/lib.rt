@@ -1,4 +1,6 @@
 // A whole run in one call in which each choice is offered and then made, for programs in other languages: tests/bench/ times it.
+#![tactic(auto)]
+
 mod offered;
 
 ghost use Rattle.std.specs.Prelude.{◌≡◌};

@@ -1,4 +1,6 @@
 // The plan reader: a plan's file is read whole, or refused with the number of the first check that fails.
+#![tactic(auto)]
+
 ghost use Rattle.std.specs.Prelude.{◌≡◌, ◌+◌, ◌≤◌, length};
 ghost use Rattle.plan.specs.Reading.{parts_check, read_of, reading_of};
 
@@ -13,7 +15,7 @@ pub use verdict::Check;
 use vocabulary::Refusal;
 
 // What reading a file finds.
-#[derive(Drop)]
+#[derive(Clone, Copy)]
 pub enum Reading {
     Accepted(Header),
     Refused(Refusal),

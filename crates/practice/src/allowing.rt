@@ -11,7 +11,7 @@ use tables::Offer;
 use vocabulary::{Slot, Slots};
 
 // Lines in ascending order, and how many.
-#[derive(Drop)]
+#[derive(Clone, Copy)]
 pub struct Lines {
     pub found: [u16; 32],
     pub count: u16,

@@ -8,7 +8,7 @@ use state::SLOTS;
 use vocabulary::Slots;
 
 // The idle worker with the smallest number, and whether there is one; where there is none it is worker 0.
-#[derive(Drop)]
+#[derive(Clone, Copy)]
 pub struct Crew {
     pub worker: u16,
     pub idle: bool,

@@ -1,4 +1,6 @@
 // Practice orders by number: which worker and line to choose next.
+#![tactic(auto)]
+
 mod allowing;
 mod crew;
 mod numbers;
@@ -18,7 +20,7 @@ use state::{Figures, State};
 use vocabulary::{Line, Refusal, Slots, Worker};
 
 // What a draw hands back: a worker and a line to choose, and the new practice number; or a refusal and the old number.
-#[derive(Drop)]
+#[derive(Clone, Copy)]
 pub enum Drawn {
     Choice(Worker, Line, u32),
     Refused(Refusal, u32),

@@ -1,4 +1,6 @@
 // The program's lines, as they are put into a sink. A crate apart from `session`, whose must-fail edits would each check it again.
+#![tactic(auto)]
+
 mod figures;
 mod line;
 mod text;

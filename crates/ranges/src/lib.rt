@@ -1,4 +1,6 @@
 // A state looked over, as each choice does first: whether every number of it is within its range.
+#![tactic(auto)]
+
 mod counters;
 mod flags;
 mod joint;
@@ -14,7 +16,7 @@ use state::{Figures, MOST_LINES, MOST_PIPES, MOST_TOKENS, MOST_WORKERS, SLOTS};
 use vocabulary::{Pipe, Place, Slot, Slots, Token, Worker};
 
 // What a look over the state tells: whether it is sound, and if so whether the chosen worker runs a line and what the chosen line does.
-#[derive(Drop)]
+#[derive(Clone, Copy)]
 pub struct Survey {
     pub sound: bool,
     pub busy: bool,

@@ -11,7 +11,7 @@ use state::SLOTS;
 use vocabulary::{Slot, Slots};
 
 // What a walk over the slots finds: whether all are within their ranges, and whether the worker runs a line.
-#[derive(Drop)]
+#[derive(Clone, Copy)]
 pub struct Found {
     pub sound: bool,
     pub busy: bool,

@@ -1,4 +1,6 @@
 // A token's finish at pipe 0, on the tables in lent memory.
+#![tactic(auto)]
+
 mod in_range;
 mod moving;
 mod watching;

@@ -11,7 +11,7 @@ use state::{SLOTS, State};
 use vocabulary::{Answer, Line, Refusal};
 
 // Whether the choice may be made; where it may not, and nothing else is against it, the number that it is refused with.
-#[derive(Drop)]
+#[derive(Clone, Copy)]
 pub struct Leave {
     pub given: bool,
     pub why: Refusal,

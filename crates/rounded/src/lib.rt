@@ -1,4 +1,6 @@
 // Choices of a run with its rounding (02, 2.2): a choice, an offer, and the taking of what was offered.
+#![tactic(auto)]
+
 mod leave;
 
 ghost use Rattle.std.specs.Prelude.{◌≡◌, List, ℕ};
@@ -19,7 +21,7 @@ use rounding::{Rounding, Run, Settled};
 use vocabulary::{Answer, Event, EventRecord, Line, Refusal, Worker};
 
 // What a choice returns: its answer, and the run after it.
-#[derive(Drop)]
+#[derive(Clone, Copy)]
 pub struct Chosen {
     pub answer: Answer,
     pub run: Run,

@@ -1,4 +1,6 @@
 // Opening a run with rounding (02, 2.2): an opening's own checks, then those of the rounding; and only then anything is written.
+#![tactic(auto)]
+
 ghost use Rattle.std.specs.Prelude.{◌≡◌};
 ghost use Rattle.rounded_opening.specs.RoundedOpenings.{refused_rounded, open_rounded_of};
 
@@ -7,7 +9,7 @@ use rounding::Run;
 use vocabulary::{Pipe, Refusal};
 
 // The answer, and the run beside it: a refused opening has a state of zeros, without rounding.
-#[derive(Drop)]
+#[derive(Clone, Copy)]
 pub struct Opened {
     pub answer: Opening,
     pub run: Run,

@@ -1,4 +1,6 @@
 // A whole run with its rounding in one call, for programs in other languages: tests/bench/ times it.
+#![tactic(auto)]
+
 ghost use Rattle.std.specs.Prelude.{◌≡◌};
 ghost use Rattle.rules.specs.Choices.{choices_in};
 ghost use Rattle.rounding.specs.Runs.{run_of};

@@ -2,14 +2,14 @@
 ghost use Rattle.std.specs.Prelude.{◌≡◌};
 ghost use Rattle.rounding.specs.Bases.{base_in};
 
-#[derive(Drop)]
+#[derive(Clone, Copy)]
 pub enum Base {
     Three,
     Five,
 }
 
 // What a number says of a base.
-#[derive(Drop)]
+#[derive(Clone, Copy)]
 pub enum BaseNumber {
     Known(Base),
     Unknown,

@@ -1,4 +1,6 @@
 // The rounding paper (02, 2.2): the rounding of a run, published sums, and what is lent for them.
+#![tactic(auto)]
+
 mod base;
 mod lending;
 mod opening;
@@ -16,7 +18,7 @@ pub use sums::SUM_MOST;
 use vocabulary::Pipe;
 
 // The rounding of a run: its pipe, its base, and T. All three are 0 in a run without rounding.
-#[derive(Drop)]
+#[derive(Clone, Copy)]
 pub struct Rounding {
     pub pipe: Pipe,
     pub base: u16,

@@ -6,7 +6,7 @@ use crate::{Rounding, lending, range};
 use vocabulary::Pipe;
 
 // What an opening with rounding comes to.
-#[derive(Drop)]
+#[derive(Clone, Copy)]
 pub enum Opening {
     Opens(Rounding),
     // 16: the pipe is absent or parallel

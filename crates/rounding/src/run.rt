@@ -7,7 +7,7 @@ use state::State;
 use vocabulary::Pipe;
 
 // The state of a run, and its rounding beside it.
-#[derive(Drop)]
+#[derive(Clone, Copy)]
 pub struct Run {
     pub state: State,
     pub rounding: Rounding,

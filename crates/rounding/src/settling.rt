@@ -11,14 +11,14 @@ use crate::{Rounding, range, sums};
 use vocabulary::{Answer, Pipe, Token};
 
 // The token whose cell passes by a choice, if one does.
-#[derive(Drop)]
+#[derive(Clone, Copy)]
 pub enum Passer {
     Nobody,
     Passes(Token),
 }
 
 // The rounding after a choice; or that T would pass its limit, or a number is outside its range.
-#[derive(Drop)]
+#[derive(Clone, Copy)]
 pub enum Settled {
     Done(Rounding),
     Spoiled,

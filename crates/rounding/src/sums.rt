@@ -10,13 +10,13 @@ use crate::base::Base;
 pub const SUM_MOST: u32 = 4096000000;
 
 // T and the figure when a cell has passed.
-#[derive(Drop)]
+#[derive(Clone, Copy)]
 pub struct Passed {
     pub sum: u32,
     pub figure: u32,
 }
 
-#[derive(Drop)]
+#[derive(Clone, Copy)]
 pub enum Passing {
     Passes(Passed),
     TooMuch,

@@ -1,11 +1,13 @@
 // The program of document 01: it reads plan.bin, then W and the choices from standard input, two bytes each, and prints a line for each
 // choice.
+#![tactic(auto)]
+
 use libc::STDIN_FILENO;
 use printing::Sink;
 use session::Session;
 
 // What one reading of the input leads to: whether there was any, and the run.
-#[derive(Drop)]
+#[derive(Clone, Copy)]
 struct Turn {
     more: bool,
     session: Session,

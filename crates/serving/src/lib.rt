@@ -1,4 +1,6 @@
 // The lines of a block of input, each answered in turn, up to one that is the program's own. Nothing here trusts its caller.
+#![tactic(auto)]
+
 ghost use Rattle.std.specs.Prelude.{◌≡◌, ◌≤◌, length};
 ghost use Rattle.answering.specs.Answers.{held_of};
 ghost use Rattle.serving.specs.Lines.{lines_in, moved_up};
@@ -10,7 +12,7 @@ use commands::Command;
 const NEWLINE: u8 = 10;
 
 // How far the text was served, and the run then.
-#[derive(Drop)]
+#[derive(Clone, Copy)]
 pub struct Served {
     pub at: usize,
     pub talk: Talk,

@@ -1,5 +1,7 @@
 // A run of document 01's program on byte slices, between reading its input and writing its output: how it begins and how it ends.
 // Its choices are fed by the crate `feeding`. Nothing here trusts its caller.
+#![tactic(auto)]
+
 ghost use Rattle.std.specs.Prelude.{◌≡◌};
 ghost use Rattle.opening.specs.Opened.{open_of};
 ghost use Rattle.state.specs.Ending.{ended_of};
@@ -12,14 +14,14 @@ use printing::Sink;
 use state::State;
 
 // A run that goes on, and where its output goes.
-#[derive(Drop)]
+#[derive(Clone, Copy)]
 pub struct Session {
     pub state: State,
     pub sink: Sink,
 }
 
 // What opening gives: whether the run goes on, and the run; a refused one has a state of zeros.
-#[derive(Drop)]
+#[derive(Clone, Copy)]
 pub struct Begun {
     pub accepted: bool,
     pub session: Session,

@@ -1,4 +1,6 @@
 // Where output goes: through a lent buffer to standard output, or into a digest of it.
+#![tactic(auto)]
+
 ghost use Rattle.std.specs.Prelude.{◌≡◌, length};
 ghost use Rattle.sink.specs.Sinks.{written as written_of, digested as digestedOf, mixed, digest_of, flushed_of, fits_of, stored_of, put_of};
 
@@ -9,7 +11,7 @@ const MODULUS: u64 = 4294967291;
 
 const BASE: u64 = 65599;
 
-#[derive(Drop)]
+#[derive(Clone, Copy)]
 pub struct Sink {
     // How many bytes of the buffer wait.
     pub at: usize,

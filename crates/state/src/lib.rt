@@ -1,4 +1,6 @@
 // The state of a run: its numbers, and its end.
+#![tactic(auto)]
+
 mod ending;
 mod limits;
 
@@ -19,7 +21,7 @@ use vocabulary::{Pipe, Place, Slots, Token, Worker};
 // The state of a run: P, L, W, how many tokens have a place, whether the run is marked stopped, the numbers of the token tables,
 // N among them, which pipes are serial, the join counters (16 to a line), and what each line does: its pipe, whether it runs, its
 // token, its place and its worker. (The large arrays come last: a state is copied at each choice, and they are then copied by themselves.)
-#[derive(Drop)]
+#[derive(Clone, Copy)]
 pub struct State {
     pub pipes: u16,
     pub lines: u16,
@@ -37,7 +39,7 @@ pub struct State {
 }
 
 // The state but for its counters and slots.
-#[derive(Drop)]
+#[derive(Clone, Copy)]
 pub struct Figures {
     pub pipes: u16,
     pub lines: u16,

@@ -1,4 +1,6 @@
 // A whole run in one call by offers and the taking of what was offered, for programs in other languages: tests/bench/ times it.
+#![tactic(auto)]
+
 mod taken;
 
 ghost use Rattle.std.specs.Prelude.{◌≡◌};

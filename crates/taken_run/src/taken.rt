@@ -10,7 +10,7 @@ use state::State;
 use vocabulary::{Answer, Event, Line, Worker};
 
 // What there is to take of an offer's answer: its event, or nothing.
-#[derive(Drop)]
+#[derive(Clone, Copy)]
 enum Taking {
     Take(Event),
     Nothing,

@@ -1,4 +1,6 @@
 // Taking a token from the tables in lent memory.
+#![tactic(auto)]
+
 mod in_range;
 
 ghost use Rattle.std.specs.Prelude.{◌≡◌};

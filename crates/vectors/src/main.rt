@@ -1,4 +1,6 @@
 // Runs the stored plans and runs. What it must print is made by the second implementation (tests/second/vectors.py has the format).
+#![tactic(auto)]
+
 mod plans;
 mod runs;
 mod stored;
@@ -6,7 +8,7 @@ mod stored;
 use printing::Sink;
 
 // What one stored plan or run leads to: whether there was one, and the output.
-#[derive(Drop)]
+#[derive(Clone, Copy)]
 struct Turn {
     more: bool,
     sink: Sink,

@@ -7,7 +7,7 @@ use printing::Sink;
 use session::Session;
 
 // Choices made from a seed, of so many workers: so many, each of a line below a modulus.
-#[derive(Drop)]
+#[derive(Clone, Copy)]
 struct Made {
     workers: u8,
     count: u64,

@@ -2,7 +2,7 @@
 ghost use Rattle.io.specs.Counts.{IsPrefixLen};
 
 // A number that was read, unless the file ended before it.
-#[derive(Drop)]
+#[derive(Clone, Copy)]
 pub struct Stored {
     pub there: bool,
     pub value: u64,

@@ -2,7 +2,7 @@
 use crate::{Line, Pipe, Place, Refusal, Token, Worker};
 
 // A start or a finish: which line, at which pipe, with which token and place, and by which worker.
-#[derive(Drop)]
+#[derive(Clone, Copy)]
 pub struct Step {
     pub line: Line,
     pub pipe: Pipe,
@@ -12,13 +12,13 @@ pub struct Step {
 }
 
 // A stop: which line, and by which worker.
-#[derive(Drop)]
+#[derive(Clone, Copy)]
 pub struct Stop {
     pub line: Line,
     pub worker: Worker,
 }
 
-#[derive(Drop)]
+#[derive(Clone, Copy)]
 pub enum Answer {
     Started(Step),
     Finished(Step),

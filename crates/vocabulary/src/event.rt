@@ -4,7 +4,7 @@ ghost use Rattle.vocabulary.specs.Events.{step_record, event_record, same_record
 
 use crate::{Step, Stop};
 
-#[derive(Drop)]
+#[derive(Clone, Copy)]
 pub enum Event {
     Started(Step),
     Finished(Step),
@@ -13,7 +13,7 @@ pub enum Event {
 
 // An event as numbers: its kind, the program's letter as a byte, and its line, pipe, token, place and worker. A stop has 0 in
 // pipe, token and place.
-#[derive(Drop)]
+#[derive(Clone, Copy)]
 pub struct EventRecord {
     pub kind: u8,
     pub line: u16,
@@ -46,6 +46,7 @@ impl EventRecord {
     }
 
     // Whether two records agree in every field.
+    #[tactic(auto, unfolding(crate::specs::Events::same_record))]
     pub fn same(self, other: EventRecord) -> bool
         ensures { result ≡ same_record self other }
     {

@@ -1,4 +1,6 @@
 // The vocabulary of document 01: its numbers, each of its own kind, and what a choice answers.
+#![tactic(auto)]
+
 mod answer;
 mod event;
 mod pipe_kind;
@@ -10,28 +12,28 @@ pub use pipe_kind::{PipeByte, PipeKind};
 pub use refusal::Refusal;
 
 // A token's number.
-#[derive(Drop)]
+#[derive(Clone, Copy)]
 pub struct Token(pub u16);
 
 // A token's place in the order, from 0.
-#[derive(Drop)]
+#[derive(Clone, Copy)]
 pub struct Place(pub u16);
 
 // A line's number.
-#[derive(Drop)]
+#[derive(Clone, Copy)]
 pub struct Line(pub u16);
 
 // A pipe's number.
-#[derive(Drop)]
+#[derive(Clone, Copy)]
 pub struct Pipe(pub u16);
 
 // A worker's number.
-#[derive(Drop)]
+#[derive(Clone, Copy)]
 pub struct Worker(pub u16);
 
 // What a line is doing: at which pipe it waits or runs, with which token and place, and by which worker. (A line that does not run
 // has worker 0.)
-#[derive(Drop)]
+#[derive(Clone, Copy)]
 pub struct Slot {
     pub pipe: Pipe,
     pub running: bool,
@@ -41,7 +43,7 @@ pub struct Slot {
 }
 
 // The slots of all lines, a row for each kind of number: so a test of all of them takes a few instructions a row.
-#[derive(Drop)]
+#[derive(Clone, Copy)]
 pub struct Slots {
     pub at: [Pipe; 32],
     pub running: [bool; 32],

@@ -2,14 +2,14 @@
 ghost use Rattle.std.specs.Prelude.{◌≡◌};
 ghost use Rattle.vocabulary.specs.PipeKinds.{full_of, kind_if, pipe_of};
 
-#[derive(Drop)]
+#[derive(Clone, Copy)]
 pub enum PipeKind {
     Serial,
     Parallel,
 }
 
 // What a file byte says of a pipe.
-#[derive(Drop)]
+#[derive(Clone, Copy)]
 pub enum PipeByte {
     Known(PipeKind),
     Unknown,

@@ -1,4 +1,6 @@
 // A whole run in one call, for programs in other languages: tests/bench/ times it.
+#![tactic(auto)]
+
 mod checksum;
 
 ghost use Rattle.std.specs.Prelude.{◌≡◌};

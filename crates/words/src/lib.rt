@@ -1,17 +1,19 @@
 // Words of a line of text: where one ends, whether it is a given word, and the number that it is in decimal.
+#![tactic(auto)]
+
 ghost use Rattle.std.specs.Prelude.{◌≡◌, ◌≤◌, length, drop};
 ghost use Rattle.words.specs.Words.{up_to, past, same as sameOf};
 ghost use Rattle.words.specs.Numbers.{number_of, short_of};
 
 // A number of at most 32 bits, or none.
-#[derive(Drop)]
+#[derive(Clone, Copy)]
 pub enum Number {
     Value(u32),
     Missing,
 }
 
 // A number of at most 16 bits, or none.
-#[derive(Drop)]
+#[derive(Clone, Copy)]
 pub enum ShortNumber {
     Value(u16),
     Missing,

@@ -1,5 +1,5 @@
 -- A token below N stays deferred exactly if a chain of deferrals from it meets a cycle or a number that never enters (01).
-use mathlib.Core.Path.{◌≡◌, refl, sym, ap, ◌∙◌}
+use mathlib.Core.Path.{◌≡◌, refl, sym, ap, subst, ◌∙◌}
 use mathlib.Core.Bool.{true, false, not}
 use mathlib.Core.List.{List, [], ◌∷◌}
 use mathlib.Core.Logic.{◌⊎◌, inl, inr, ◌↔◌, by_cases}
@@ -57,7 +57,7 @@ module _ (tokens : ℕ) (numbers : ℕ → List ℕ) (others : (n : ℕ) → has
         (λ same. (k, omega arith, at ∙ same))
         (λ other. let (i, low, at) = f.placed m (omega (members, same_number n m)) in (i, omega arith, at));
     single = λ m. by_cases (ℕ_discrete n m)
-        (λ same. rw (← same) (omega (arith, fresh, same_number n n)))
+        (λ same. subst (λ (x : ℕ). times x (n ∷ l) ≤ 1) same (omega (arith, fresh, same_number n n)))
         (λ other. omega (arith, f.single m, same_number n m));
   }
     where
