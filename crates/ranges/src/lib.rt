@@ -11,7 +11,6 @@ ghost use Rattle.std.specs.Prelude.{◌≡◌, List, ℕ, ◌<◌};
 ghost use Rattle.ranges.specs.RangeParts.{figures_sound};
 ghost use Rattle.ranges.specs.Surveys.{rows_sound, rest_sound, near as nearOf, spoiled, survey_of};
 
-pub use joint::{both, either};
 use state::{Figures, MOST_LINES, MOST_PIPES, MOST_TOKENS, MOST_WORKERS, SLOTS};
 use vocabulary::{Pipe, Place, Slot, Slots, Token, Worker};
 
