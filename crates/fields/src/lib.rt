@@ -13,6 +13,7 @@ fn field(s: &[u8], at: usize) -> u16
 }
 
 // The same for any place: 0 where there is no field.
+#[tactic(auto, using(crate::proofs::Fields::no_field, crate::proofs::Fields::field_is))]
 pub fn field_or_zero(s: &[u8], at: usize) -> u16
     ensures { result ≡ field_in s.now at }
 {
