@@ -1,0 +1,12 @@
+-- The answer is the one marked stopped.
+use Rattle.rules.proofs.lists.Tests.{tests}
+use Rattle.state.specs.Ending.{over_of}
+use Rattle.state.proofs.ending.is_over.Goals as goal
+
+pub returns-then-stopped : goal.returns-then-stopped
+unfolding over_of
+returns-then-stopped c = search tests depth 8
+
+pub returns : goal.returns
+unfolding over_of
+returns c = search tests depth 8
