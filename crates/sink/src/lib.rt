@@ -4,7 +4,8 @@
 ghost use Rattle.std.specs.Prelude.{◌≡◌, length};
 ghost use Rattle.sink.specs.Sinks.{written as written_of, digested as digestedOf, mixed, digest_of, flushed_of, fits_of, stored_of, put_of};
 
-use libc::STDOUT_FILENO;
+// Standard output's number.
+const STDOUT: i32 = 1;
 
 // The digest's modulus, the largest prime below 2^32, and its base.
 const MODULUS: u64 = 4294967291;
@@ -23,6 +24,7 @@ pub struct Sink {
 }
 
 // One more byte in the digest.
+#[tactic(auto, unfolding(crate::specs::Sinks::mixed))]
 fn add(sum: u64, byte: u8) -> u64
     ensures { result ≡ mixed sum byte }
 {
@@ -31,6 +33,7 @@ fn add(sum: u64, byte: u8) -> u64
 
 impl Sink {
     // Output to standard output.
+    #[tactic(auto, unfolding(crate::specs::Sinks::written))]
     pub fn written() -> Self
         ensures { result ≡ written_of }
     {
@@ -43,6 +46,7 @@ impl Sink {
     }
 
     // Output to a digest.
+    #[tactic(auto, unfolding(crate::specs::Sinks::written, crate::specs::Sinks::digested))]
     pub fn digested() -> Self
         ensures { result ≡ digestedOf }
     {
@@ -77,6 +81,7 @@ impl Sink {
     }
 
     // Hands on what waits in the buffer.
+    #[tactic(auto, unfolding(crate::specs::Sinks::flushed_of))]
     pub fn flush(self, out: &[u8]) -> Self
         ensures { result ≡ flushed_of self out.now }
     {
@@ -87,11 +92,12 @@ impl Sink {
         if self.digests {
             return self.digest(&out[..at]);
         }
-        io::write_all(STDOUT_FILENO, &out[..at]);
+        io::write_all(STDOUT, &out[..at]);
         Self::written()
     }
 
     // Puts bytes into the buffer, which is handed on first where they would not fit.
+    #[tactic(auto, unfolding(crate::specs::Sinks::put_of))]
     pub fn put(self, out: &mut [u8], text: &[u8]) -> Self
         ensures { (result, out.new) ≡ put_of (self, out.old) text.now }
     {
@@ -103,6 +109,7 @@ impl Sink {
     }
 
     // Whether so many bytes fit a buffer of this size.
+    #[tactic(auto, unfolding(crate::specs::Sinks::fits_of))]
     fn fits(self, size: usize, count: usize) -> bool
         ensures { result ≡ fits_of self size count }
     {
