@@ -20,6 +20,7 @@ pub enum ShortNumber {
 }
 
 // How many bytes stand before the first `stop`; all where there is none.
+#[tactic(auto, using(crate::proofs::Walks::up_to_stop, crate::proofs::Walks::up_to_turn, crate::proofs::Walks::up_to_end))]
 pub fn find(text: &[u8], stop: u8) -> usize
     ensures { result ≡ length (up_to stop text.now) }
 {
@@ -34,6 +35,7 @@ pub fn find(text: &[u8], stop: u8) -> usize
 }
 
 // Where what follows the first `stop` starts; the end where there is none.
+#[tactic(auto, using(crate::proofs::Walks::past_is, crate::proofs::Walks::past_end))]
 pub fn find_past(text: &[u8], stop: u8) -> usize
     ensures within { result ≤ length text.now }
     ensures rest { drop result text.now ≡ past stop text.now }
@@ -46,6 +48,7 @@ pub fn find_past(text: &[u8], stop: u8) -> usize
 }
 
 // Whether a word is this one.
+#[tactic(auto, using(crate::proofs::Walks::same_sizes, crate::proofs::Walks::same_turn, crate::proofs::Walks::same_not, crate::proofs::Walks::same_end))]
 pub fn same(word: &[u8], other: &[u8]) -> bool
     ensures { result ≡ sameOf word.now other.now }
 {
@@ -63,6 +66,7 @@ pub fn same(word: &[u8], other: &[u8]) -> bool
 }
 
 // The number that a word is, if it is one and at most `most`.
+#[tactic(auto, using(crate::proofs::Digits::number_start, crate::proofs::Digits::number_none, crate::proofs::Digits::number_large, crate::proofs::Digits::number_turn, crate::proofs::Digits::number_not, crate::proofs::Digits::number_end, crate::proofs::Digits::digit_is, crate::proofs::Digits::digit_low, crate::proofs::Digits::digit_high))]
 pub fn read_number(word: &[u8], most: u32) -> Number
     ensures { result ≡ number_of most word.now }
 {
@@ -89,6 +93,7 @@ pub fn read_number(word: &[u8], most: u32) -> Number
 }
 
 // The same for a number of 16 bits.
+#[tactic(auto, using(crate::proofs::Digits::number_most))]
 pub fn read_short(word: &[u8]) -> ShortNumber
     ensures { result ≡ short_of word.now }
 {
@@ -99,6 +104,7 @@ pub fn read_short(word: &[u8]) -> ShortNumber
 }
 
 // The number that the first word is, up to `stop`.
+#[tactic(auto, using(crate::proofs::Walks::up_to_is, crate::proofs::Walks::up_to_length))]
 pub fn read_first(text: &[u8], stop: u8) -> ShortNumber
     ensures { result ≡ short_of (up_to stop text.now) }
 {
