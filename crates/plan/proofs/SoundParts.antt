@@ -9,7 +9,7 @@ use lib.Dec.{eqb}
 use lib.ListN.{length, get_or, take, drop, length-drop, take-append-drop}
 use lib.Seq.{take-add, length-take-le}
 use Rattle.rules.specs.Lists.{if}
-use Rattle.fields.specs.Bytes.{fields, field_bytes, Bytes}
+use Rattle.fields.specs.Bytes.{field_bytes, Bytes}
 use Rattle.plan.specs.Plan.{Record, ValidRecord, FirstSerial, AscendingFrom, total, record_bytes, records_bytes}
 use Rattle.vocabulary.specs.PipeKinds.{byte_of}
 use Rattle.rules.specs.Lists.{Every}

@@ -6,6 +6,7 @@ use crate::verdict::Check;
 use vocabulary::{PipeByte, PipeKind, Refusal};
 
 // Each byte stands for a kind.
+#[tactic(auto, using(crate::proofs::Steps::kinds_known, crate::proofs::Steps::kinds_unknown, crate::proofs::Steps::kinds_end))]
 fn check_kinds(bytes: &[u8]) -> Check
     ensures { result ≡ kinds_check bytes.now }
 {
@@ -19,6 +20,7 @@ fn check_kinds(bytes: &[u8]) -> Check
 }
 
 // Each byte stands for a kind, and the first pipe is serial.
+#[tactic(auto, unfolding(crate::specs::Pipes::pipes_check))]
 pub(crate) fn check_pipes(bytes: &[u8]) -> Check
     ensures { result ≡ pipes_check bytes.now }
 {
