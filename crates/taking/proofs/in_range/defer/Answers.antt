@@ -1,0 +1,6 @@
+use Rattle.tables.proofs.code.TakingLaws.{deferred_is}
+use Rattle.taking.proofs.in_range.defer.Goals as goal
+
+pub returns : goal.returns
+returns c =
+    deferred_is c.args.mem.now c.args.held c.args.count c.args.upto c.enter.ensures c.enter_watches.ensures c.mark_deferred.ensures

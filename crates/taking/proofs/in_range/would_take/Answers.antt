@@ -1,0 +1,20 @@
+use Rattle.std.proofs.Common.{refl}
+use Rattle.tables.proofs.code.TakingLaws as laws
+use Rattle.taking.proofs.in_range.would_take.Goals as goal
+
+pub returns-then-token-t : goal.returns-then-token-t
+returns-then-token-t c = laws.offer_ready c.args.t c.args.mem.now refl c.if-t.true c.if-token-t.true
+
+pub returns-then-t : goal.returns-then-t
+returns-then-t c = laws.offer_bad c.args.t c.args.mem.now refl c.if-t.true c.if-token-t.false
+
+pub returns-in_default : goal.returns-in_default
+returns-in_default c =
+    laws.offer_new c.args.t c.args.mem.now c.if-t.false c.find-found.ensures c.in_default.is (laws.offer_unknown c.args.t c.args.mem.now)
+
+pub would_take_upto-requires-clause-count_le_upto : goal.would_take_upto-requires-clause-count_le_upto
+would_take_upto-requires-clause-count_le_upto c = laws.found_within _ _ _ c.requires.in_range.count c.find-found.ensures c.in-Known.is
+
+pub returns : goal.returns
+returns c =
+    laws.offer_new c.args.t c.args.mem.now c.if-t.false c.find-found.ensures c.in-Known.is (c.would_take_upto.ensures c.args.mem.now)
