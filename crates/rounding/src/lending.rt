@@ -20,6 +20,7 @@ pub(crate) fn cells_fit(cells: &[u32]) -> bool
 }
 
 // Whether there are so many cells, as many figures, and no cell is too large.
+#[tactic(auto, using(rules::proofs::lists::Tests::tests, rules::proofs::lists::Tests::if_eta))]
 pub fn lent_fits(n: usize, cells: &[u32], figures: usize) -> bool
     ensures { result ≡ all (eqb (length cells.now) n ∷ eqb figures n ∷ cells_fit cells.now ∷ []) }
 {

@@ -18,6 +18,7 @@ pub enum Opening {
 }
 
 // Opens the rounding of a plan with these pipes and tokens, and clears the figures; a refused opening changes nothing.
+#[tactic(auto, using(crate::proofs::laws::Openings::too_many, crate::proofs::laws::Openings::no_pipe, crate::proofs::laws::Openings::no_base, crate::proofs::laws::Openings::unfit, crate::proofs::laws::Openings::opens), unfolding(rules::specs::Rounding::lent_fits))]
 pub fn open(
     pipe: Pipe,
     base: u16,

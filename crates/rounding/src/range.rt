@@ -10,6 +10,7 @@ use crate::sums::SUM_MOST;
 pub(crate) const MOST_PIPES: u16 = 16;
 
 // Whether a number is a base.
+#[tactic(auto, using(rules::proofs::lists::Tests::tests), unfolding(rules::specs::Rounding::is_base))]
 pub(crate) fn is_base(n: u16) -> bool
     ensures { result ≡ is_base n }
 {
@@ -20,6 +21,7 @@ pub(crate) fn is_base(n: u16) -> bool
 }
 
 // Whether a number is that of a serial pipe of the plan.
+#[tactic(auto, using(rules::proofs::lists::Tests::tests, rules::proofs::lists::Tests::if_eta), unfolding(rules::specs::Rounding::is_rounding_pipe))]
 pub(crate) fn is_rounding_pipe(pipes: u16, serial: &[bool; 16], pipe: u16) -> bool
     requires { pipes ≤ 16 }
     ensures { result ≡ is_rounding_pipe pipes serial.now pipe }
@@ -32,6 +34,7 @@ pub(crate) fn is_rounding_pipe(pipes: u16, serial: &[bool; 16], pipe: u16) -> bo
 }
 
 // Whether a rounding is within its ranges, in a plan of at most 16 pipes with these flags.
+#[tactic(auto, using(rules::proofs::lists::Tests::tests, crate::proofs::laws::Ranges::pipe_left, crate::proofs::laws::Ranges::sum_tells, crate::proofs::laws::Ranges::no_base, crate::proofs::laws::Ranges::no_pipe, crate::proofs::laws::Ranges::most_tells))]
 pub fn in_range(r: Rounding, pipes: u16, serial: &[bool; 16]) -> bool
     ensures { result ≡ rounding_fits pipes serial.now (rounding_of r) }
 {

@@ -25,6 +25,7 @@ pub enum Settled {
 }
 
 // Who passes by an answer.
+#[tactic(auto, using(crate::proofs::laws::Settlings::without, crate::proofs::laws::Settlings::here, crate::proofs::laws::Settlings::elsewhere, crate::proofs::laws::Settlings::by_start, crate::proofs::laws::Settlings::by_stop, crate::proofs::laws::Settlings::by_refusal), unfolding(rules::specs::Answers::answer_of))]
 fn who_passes(r: Rounding, answer: Answer) -> Passer
     ensures { passer_of result ≡ passingBy (rounding_of r) (answer_of answer) }
 {
@@ -46,6 +47,7 @@ fn who_passes(r: Rounding, answer: Answer) -> Passer
 }
 
 // Whether a base is one, or that of a run without rounding.
+#[tactic(auto, using(rules::proofs::lists::Tests::tests), unfolding(crate::specs::Settlings::is_known))]
 fn is_known(base: u16) -> bool
     ensures { result ≡ is_known base }
 {
@@ -75,6 +77,7 @@ fn put(figures: &mut [u32], at: usize, figure: u32)
 }
 
 // Whether T stays within its limit when a token finishes a pipe.
+#[tactic(auto, using(crate::proofs::laws::Settlings::stays_past, crate::proofs::laws::Settlings::stays_without, crate::proofs::laws::Settlings::stays_elsewhere, crate::proofs::laws::Settlings::stays_some))]
 pub fn stays(r: Rounding, pipe: Pipe, token: Token, cells: &[u32]) -> bool
     ensures { result ≡ leb (sum_after (rounding_of r) cells.now (passer (rounding_of r) pipe.0 token.0)) sum_most }
 {
@@ -92,6 +95,7 @@ pub fn stays(r: Rounding, pipe: Pipe, token: Token, cells: &[u32]) -> bool
 }
 
 // T and the figures after a choice that is accepted without rounding, with this answer.
+#[tactic(auto, using(crate::proofs::laws::Settlings::unknown, crate::proofs::laws::Settlings::past, crate::proofs::laws::Settlings::kept, crate::proofs::laws::Settlings::numbered, crate::proofs::laws::Settlings::too_much, crate::proofs::laws::Settlings::passes))]
 pub fn settle(r: Rounding, answer: Answer, cells: &[u32], figures: &mut [u32]) -> Settled
     ensures { settled_of result figures.new ≡
         settle_by (rounding_of r) (answer_of answer) cells.now figures.old }

@@ -23,6 +23,7 @@ pub enum Passing {
 }
 
 // The multiple of 3 that is nearest to a sum.
+#[tactic(auto, unfolding(rules::specs::Rounding::published))]
 fn nearest_three(sum: u32) -> u32
     ensures { result ≡ publishedBy 3 sum }
 {
@@ -34,6 +35,7 @@ fn nearest_three(sum: u32) -> u32
 }
 
 // The multiple of 5 that is nearest to a sum.
+#[tactic(auto, unfolding(rules::specs::Rounding::published))]
 fn nearest_five(sum: u32) -> u32
     ensures { result ≡ publishedBy 5 sum }
 {
@@ -55,6 +57,7 @@ pub(crate) fn published(base: Base, sum: u32) -> u32
 }
 
 // What a cell publishes: the rise in the published sum.
+#[tactic(auto, using(rules::proofs::rounding::Sums::published_rises, crate::proofs::laws::Bases::base_is), unfolding(rules::specs::Rounding::rise))]
 fn rise(base: Base, sum: u32, cell: u32) -> u32
     requires { sum + cell ≤ 4294967295 }
     ensures { result ≡ riseBy (base_of base) sum cell }
@@ -63,6 +66,7 @@ fn rise(base: Base, sum: u32, cell: u32) -> u32
 }
 
 // A cell passes: T after it and its figure, unless T would pass its limit.
+#[tactic(auto, using(rules::proofs::lists::Tests::tests), unfolding(crate::specs::Passings::pass_of))]
 pub(crate) fn pass(base: Base, sum: u32, cell: u32) -> Passing
     ensures { result ≡ pass_of (base_of base) sum cell }
 {
