@@ -59,6 +59,7 @@ const MOST_OF_PATH: usize = 4095;
 pub const MOST_OF_LINE: usize = 8191;
 
 // A command of one word.
+#[tactic(auto, unfolding(crate::specs::Commands::alone_of))]
 fn alone(word: &[u8]) -> Command
     ensures { result ≡ alone_of word.now }
 {
@@ -78,6 +79,7 @@ fn alone(word: &[u8]) -> Command
 }
 
 // Whether a text can be a path.
+#[tactic(auto, unfolding(crate::specs::Commands::is_path, rules::specs::Lists::within))]
 fn is_path(text: &[u8]) -> bool
     ensures { result ≡ is_path text.now }
 {
@@ -88,6 +90,7 @@ fn is_path(text: &[u8]) -> bool
 }
 
 // `plan PATH`
+#[tactic(auto, unfolding(crate::specs::Commands::plan_of))]
 fn plan_of(path: &[u8], start: usize) -> Command
     ensures { result ≡ plan_of start path.now }
 {
@@ -98,6 +101,7 @@ fn plan_of(path: &[u8], start: usize) -> Command
 }
 
 // `choose WORKER LINE`
+#[tactic(auto, unfolding(crate::specs::Commands::choose_of))]
 fn choose_of(text: &[u8]) -> Command
     ensures { result ≡ choose_of (words_in text.now) }
 {
@@ -111,6 +115,7 @@ fn choose_of(text: &[u8]) -> Command
 }
 
 // `offer WORKER LINE`
+#[tactic(auto, unfolding(crate::specs::Commands::offer_of))]
 fn offer_of(text: &[u8]) -> Command
     ensures { result ≡ offer_of (words_in text.now) }
 {
@@ -124,6 +129,7 @@ fn offer_of(text: &[u8]) -> Command
 }
 
 // `mark W PATH`
+#[tactic(auto, using(crate::proofs::Paths::mark_unread))]
 fn mark_of(text: &[u8], start: usize) -> Command
     requires { start + length text.now ≤ 8191 }
     ensures { result ≡ mark_of start text.now }
@@ -142,6 +148,7 @@ fn mark_of(text: &[u8], start: usize) -> Command
 }
 
 // A command with arguments: its first word, and the rest of the line, which starts there.
+#[tactic(auto, unfolding(crate::specs::Commands::arguments_of))]
 fn with_arguments(word: &[u8], start: usize, rest: &[u8]) -> Command
     requires { start + length rest.now ≤ 8191 }
     ensures { result ≡ arguments_of word.now start rest.now }
@@ -168,6 +175,7 @@ fn with_arguments(word: &[u8], start: usize, rest: &[u8]) -> Command
 }
 
 // What a line asks for.
+#[tactic(auto, using(crate::proofs::Lines::command_long, crate::proofs::Lines::command_alone, crate::proofs::Lines::command_arguments))]
 pub fn parse(line: &[u8]) -> Command
     ensures { result ≡ command_of line.now }
 {

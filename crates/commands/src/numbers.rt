@@ -42,6 +42,7 @@ fn two_of(first: ShortNumber, second: ShortNumber) -> Pair
 }
 
 // Two numbers and no more.
+#[tactic(auto, using(crate::proofs::Arguments::pair_read, crate::proofs::Arguments::rest_at))]
 pub fn read_pair(text: &[u8]) -> Pair
     ensures { result ≡ pair_in (words_in text.now) }
 {
@@ -74,6 +75,7 @@ fn step_of(stage: Pair, order: Pair, worker: ShortNumber) -> StepNumbers
 }
 
 // Line, pipe, token, place and worker, and no more.
+#[tactic(auto, using(crate::proofs::Arguments::step_read, crate::proofs::Arguments::rest_at))]
 pub fn read_step(text: &[u8]) -> StepNumbers
     ensures { result ≡ step_in (words_in text.now) }
 {

@@ -7,6 +7,7 @@ use vocabulary::Pipe;
 use words::ShortNumber;
 
 // `open W`
+#[tactic(auto, unfolding(crate::specs::Commands::plain_of))]
 fn plain_of(text: &[u8]) -> Command
     ensures { result ≡ plain_of text.now }
 {
@@ -38,6 +39,7 @@ fn rounded_at(start: usize, workers: ShortNumber, pipe: ShortNumber, base: Short
 }
 
 // `open W PIPE BASE PATH`
+#[tactic(auto, using(crate::proofs::Openings::rounded_read, crate::proofs::Openings::rounded_unread, crate::proofs::Arguments::rest_at))]
 fn rounded_of(text: &[u8], start: usize) -> Command
     requires { start + length text.now ≤ 8191 }
     ensures { result ≡ rounded_of start text.now }
@@ -57,6 +59,7 @@ fn rounded_of(text: &[u8], start: usize) -> Command
 }
 
 // What follows `open`.
+#[tactic(auto, using(crate::proofs::Openings::open_plain, crate::proofs::Openings::open_rounded))]
 pub(crate) fn open_of(text: &[u8], start: usize) -> Command
     requires { start + length text.now ≤ 8191 }
     ensures { result ≡ open_of start text.now }

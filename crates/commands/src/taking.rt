@@ -8,6 +8,7 @@ use crate::{Command, numbers};
 use vocabulary::{Event, Line, Stop, Worker};
 
 // `take S l p t k w`
+#[tactic(auto, unfolding(crate::specs::Commands::started_of))]
 fn started_of(text: &[u8]) -> Command
     ensures { result ≡ started_of (words_in text.now) }
 {
@@ -18,6 +19,7 @@ fn started_of(text: &[u8]) -> Command
 }
 
 // `take F l p t k w`
+#[tactic(auto, unfolding(crate::specs::Commands::finished_of))]
 fn finished_of(text: &[u8]) -> Command
     ensures { result ≡ finished_of (words_in text.now) }
 {
@@ -28,6 +30,7 @@ fn finished_of(text: &[u8]) -> Command
 }
 
 // `take X l w`
+#[tactic(auto, unfolding(crate::specs::Commands::stopped_of))]
 fn stopped_of(text: &[u8]) -> Command
     ensures { result ≡ stopped_of (words_in text.now) }
 {
@@ -41,6 +44,7 @@ fn stopped_of(text: &[u8]) -> Command
 }
 
 // An event by the word of its kind, and its numbers.
+#[tactic(auto, unfolding(crate::specs::Commands::event_of))]
 fn event_of(kind: &[u8], text: &[u8]) -> Command
     ensures { result ≡ event_of kind.now (words_in text.now) }
 {
@@ -57,6 +61,7 @@ fn event_of(kind: &[u8], text: &[u8]) -> Command
 }
 
 // What follows `take`.
+#[tactic(auto, using(crate::proofs::Arguments::take_read))]
 pub(crate) fn take_of(text: &[u8]) -> Command
     ensures { result ≡ take_of (words_in text.now) }
 {
