@@ -70,8 +70,7 @@ fn follow(run: Run, choices: &[u8], mem: &mut [u16], cells: &[u32], figures: &mu
 
 // Opens the plan of a file for so many workers, with this pipe and base and these cells, or without rounding if the base is 0, and makes
 // each two bytes a choice. Returns the checksum of the answers, or the number of a refused opening.
-#[unsafe(no_mangle)]
-pub extern "C" fn pipeline_run_rounded(
+pub fn pipeline_run_rounded(
     file: &[u8],
     workers: u16,
     pipe: u16,
