@@ -1,4 +1,4 @@
-//! Links the archives that `rt staticlib` writes for whole_run, offered_run, taken_run and rounded_run, and,
+//! Links the archives of whole_run, offered_run, taken_run and rounded_run that `run` lays beside one another, and,
 //! where BENCH_BEFORE names an older one of the first, that too, with its functions under other names.
 
 use std::env;
