@@ -4,13 +4,13 @@
 
 A mutant is one small change of the code: a comparison, a constant, operands exchanged, or an
 assignment whose effect is dropped. It is made in a copy of the repository and checked there by
-`rt dev`. One that is still proved is a survivor: it does the same as the code, or it lies outside
+`rt check`. One that is still proved is a survivor: it does the same as the code, or it lies outside
 what any contract says, or a contract says too little. The exit status is 1 if a survivor is not
 explained: not in KNOWN below, not refused by a crate above, and not (in a function that has no
 contract) told by a program that prints something else than is stored.
 
 --all tries every mutant, which takes over an hour; --only one, by its label; --list shows them;
---keep keeps what the prover said. `rt` must be there, and target/ warm from an `rt check`.
+--keep keeps what the prover said. `rt` must be there, and the crates' out/ folders warm from an `rt all check`.
 """
 
 import argparse
@@ -548,21 +548,18 @@ class Room:
     def __init__(self, folder, origin, warm=True):
         self.root = Path(folder)
         shutil.copy2(origin / "crates.txt", self.root)
-        shutil.copytree(origin / "crates", self.root / "crates", symlinks=True)
-        if (origin / "target").is_dir():
-            left = shutil.ignore_patterns() if warm else shutil.ignore_patterns("inc")
-            shutil.copytree(origin / "target", self.root / "target", symlinks=True, ignore=left)
+        left = shutil.ignore_patterns() if warm else shutil.ignore_patterns("out")
+        shutil.copytree(origin / "crates", self.root / "crates", symlinks=True, ignore=left)
+        # `rt` takes the folder above for the repository's top.
+        (self.root / ".git").mkdir(exist_ok=True)
 
-    def rt(self, words, longest):
-        """The exit status of rt, None where it took too long, and what it said."""
-        # One prover in a room; errors in full, since they are read here.
-        surroundings = dict(os.environ, RT_JOBS="1", RT_CUT="0")
+    def rt(self, words, longest, crate=None):
+        """The exit status of rt in a crate's folder or at the top, None where it took too long, and what it said."""
         if Room.ended.is_set():
             raise Ended
         process = subprocess.Popen(
             ["rt", *words],
-            cwd=self.root,
-            env=surroundings,
+            cwd=self.root / "crates" / crate if crate else self.root,
             stdin=subprocess.DEVNULL,
             stdout=subprocess.PIPE,
             stderr=subprocess.STDOUT,
@@ -634,7 +631,7 @@ def proofs_of(root, owner):
     stem = owner.source.name.removesuffix(".rt")
     if stem not in ("lib", "main"):
         base = base / stem
-    return [p for p in [base / owner.name / "Proof.antt", *base.glob(f"[A-Z]*/{owner.name}/Proof.antt")] if p.is_file()]
+    return [p for at in (owner.name, f"[A-Z]*/{owner.name}") for p in base.glob(f"{at}/*.antt") if p.name in ("Answers.antt", "Proof.antt")]
 
 
 # The first error says whether the proof could be read against the code at all. Of these it could
@@ -665,15 +662,9 @@ FACTS = [
     ("no wrap, no index out of range", r""),
 ]
 
-# The operations that leave something to prove, as `rt mir` prints them.
-OPERATIONS = re.compile(
-    r'\(fnRef "[^"]*"\)|\(op2 \((?:add|sub|mul|div|rem|shl|shr)\b|\(cast\b|\b(?:offset|if|loop|switch|return)\b'
-)
-
-
 def first_error(said):
     """The first error that is no consequence of another, in one line, and the name of the fact it is about."""
-    for found in re.finditer(r"^(?:\S+: error(?:\[[^\]]*\])?|note: crates/\S+): .*(?:\n  .*)*", said, re.M):
+    for found in re.finditer(r"^(?:\S+: error(?:\[[^\]]*\])?|note: (?:src|proofs|specs)/\S+): .*(?:\n  .*)*", said, re.M):
         text = " ".join(found.group().split())
         if "was not admitted" not in text:
             name = re.search(r"error: `([^`]*)`", text) or re.search(r"\(`([^`]*)`\)", text)
@@ -728,29 +719,19 @@ class Judge:
 
     def __init__(self, keep):
         self.keep = keep
-        self.operations = {}
 
     def before(self, room, crate):
-        """The crate is proved as it is; this warms its incremental folder, too."""
-        status, said = room.rt(["dev", crate], LONGEST_ABOVE)
+        """The crate is proved as it is; this warms its folder out/, too."""
+        status, said = room.rt(["check"], LONGEST_ABOVE, crate)
         if judged(status, said)[0] != "proved":
             print(f"{crate} is not proved as it is: {first_error(said)[0] or said.strip()[-500:]}", file=sys.stderr)
             sys.exit(2)
-        self.operations[crate] = self.operations_in(room, crate)
-
-    def operations_in(self, room, crate):
-        status, said = room.rt(["mir", crate], LONGEST_CHECK)
-        return OPERATIONS.findall(said) if status == 0 else None
 
     def once(self, room, trial):
         mutant = trial.mutant
         with room.changed(trial):
-            status, said = room.rt(["dev", mutant.crate], LONGEST_CHECK)
+            status, said = room.rt(["check"], LONGEST_CHECK, mutant.crate)
             answer, why = judged(status, said)
-            # A proof that was written for other operations may fail for that alone.
-            if answer == "refused" and proofs_of(room.root, mutant.owner) and self.operations[mutant.crate]:
-                if self.operations_in(room, mutant.crate) != self.operations[mutant.crate]:
-                    answer, why = "shape", "it has other operations than the code that the proof is for"
         if self.keep:
             name = mutant.label.replace("/", ".") + ("-unaided" if trial.unaided else "")
             (self.keep / name).write_text(said, encoding="utf-8")
@@ -785,14 +766,14 @@ class Judge:
         with tempfile.TemporaryDirectory() as folder:
             above = Room(folder, room.root, warm=False)
             with above.changed(trial):
-                status, said = above.rt(["check"], LONGEST_ABOVE)
+                status, said = above.rt(["all", "check"], LONGEST_ABOVE)
         if self.keep:
             (self.keep / (mutant.label.replace("/", ".") + "-above")).write_text(said, encoding="utf-8")
         unproved = re.findall(r"^rt: (\w+) NOT PROVED \(exit", said, re.M)
         differing = re.findall(r"^rt: (\w+) proved, and its run FAILED", said, re.M)
         outside = "" if mutant.owner.proved else "no contract speaks of it; "
         if status is None or status not in (0, 1) or mutant.crate in unproved:
-            verdict.told = f"rt check of all crates cannot tell (exit status {status}; not proved: {unproved})"
+            verdict.told = f"rt all check cannot tell (exit status {status}; not proved: {unproved})"
         elif unproved:
             verdict.told, verdict.explained = f"refused by the crate above it: {', '.join(unproved)}", True
         elif differing:
