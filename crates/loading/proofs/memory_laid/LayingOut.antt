@@ -42,7 +42,7 @@ place_none : (from floor : ℕ) (rs : List Record) (n : ℕ) → AscendingFrom f
 unfolding place_of
 place_none from floor [] n up h = refl
 place_none from floor (r ∷ rs) n up h =
-    rw (ne_eqb r.token n (omega (arith, up.0))) (place_none _ (suc r.token) rs n up.1 (omega (arith, up.0)))
+    rw (ne_eqb r.token n (omega (arith, up.0))) (place_none (from + (1 + length r.numbers)) (suc r.token) rs n up.1 (omega (arith, up.0)))
 
 -- a number, by the test whether it is 0
 if_zero : (n : ℕ) → if (eqb n 0) 0 n ≡ n
