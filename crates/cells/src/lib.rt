@@ -7,6 +7,7 @@ ghost use Rattle.cells.specs.Cells.{cell_at, cells_in};
 use fields::field_or_zero;
 
 // The four-byte number at a place, low byte first.
+#[tactic(auto, using(crate::proofs::Cells::two_fields))]
 fn cell(s: &[u8], at: usize) -> u32
     requires { at + 3 < length s.now }
     ensures { result ≡ cell_at s.now at }
