@@ -2,4 +2,3 @@
 // (specs/), and what is known of them is computed from the rules and the reader (proofs/). They are a crate of their own,
 // since that takes longer than the proofs of the rules.
 #![tactic(auto)]
-
