@@ -16,7 +16,7 @@ use Rattle.cases.specs.KnownOrders.{Case, Outcome, cases, pipeline_of, outcome, 
 use Rattle.rules.proofs.lists.EveryLaws.{every_agree, every_weaken}
 use Rattle.cases.proofs.QuickRuns.{walked, counters_walked, quick_sound, quick_choose, quick_follow, quick_follow_lem}
 
--- the outcome, with the one_worker_lem run followed quickly
+-- the outcome, with the one-worker run followed quickly
 quick_outcome : Case → Outcome
 quick_outcome c =
     let order : List ℕ = sheet c.tokens (numbers_of c.records) in

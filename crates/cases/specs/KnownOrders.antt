@@ -8,7 +8,7 @@ use Rattle.rules.specs.Choices.{Choice, Answer, Started, Finished, Stopped, answ
 use Rattle.rules.specs.PlainSheet.{Deferral, numbers_of, sheet, staying, plain_source, rows, on_line}
 use Rattle.rules.specs.WholeRuns.{one_worker}
 
--- what the paper tells of a plan: the order, what stays deferred, what line 0 runs, how many choices end the one_worker_lem
+-- what the paper tells of a plan: the order, what stays deferred, what line 0 runs, how many choices end the one-worker
 -- run, and its first events, as far as they are given
 pub record Outcome : Type 0 where
   pub order : List ℕ
@@ -28,7 +28,7 @@ pub record Case : Type 0 where
 abbrev pub pipeline_of : Case → Pipeline
 pipeline_of c = record { pipes = c.pipes; lines = c.lines; tokens = c.tokens; serial = replicate c.pipes true }
 
--- the one_worker_lem run of a case, whose sheet is this order: worker 0 makes all its choices
+-- the one-worker run of a case, whose sheet is this order: worker 0 makes all its choices
 module _ (c : Case) (order : List ℕ) where
   abbrev begun : Machine Tables
   begun = opened (pipeline_of c) 1 tables.opened
@@ -87,7 +87,7 @@ case_a = record {
 abbrev pub order_b : List ℕ
 order_b = 0 ∷ 1 ∷ 2 ∷ 3 ∷ 4 ∷ 5 ∷ 6 ∷ 8 ∷ 9 ∷ 10 ∷ 11 ∷ 13 ∷ 14 ∷ 15 ∷ 16 ∷ 7 ∷ 12 ∷ []
 
--- case b with P pipes and L lines: line 0 runs these, and the one_worker_lem run takes so many choices
+-- case b with P pipes and L lines: line 0 runs these, and the one-worker run takes so many choices
 abbrev pub case_b : ℕ → ℕ → List ℕ → ℕ → Case
 case_b pipes lines line0 choices = record {
   pipes = pipes;

@@ -45,5 +45,5 @@ pub record TwentyCells : Type 0 where
   pub all_figures : (workers : ℕ) → WorkersInRange workers → (ls : List Choice) → Ends workers ls → figures workers ls ≡ carried
   -- which add up to 40
   pub together : sum_of carried ≡ 40
-  -- the one_worker_lem run is such a run
+  -- the one-worker run is such a run
   pub one_ends : Ends 1 (one_worker plan 0 20)

@@ -19,7 +19,7 @@ use Rattle.rules.specs.Journals.{Verdict, goes_on, closing, Marked, mark_events,
 use Rattle.rules.specs.Journals as paper
 use Rattle.rules.proofs.lists.Tests.{by_test, bool_ext}
 use Rattle.rules.proofs.runs.AcceptedOnly.{events_kept}
-use Rattle.rules.proofs.runs.MoreWorkers.{more_workers as rules-more}
+use Rattle.rules.proofs.runs.MoreWorkers.{more_workers as rules_more}
 use Rattle.rules.proofs.runs.Journals.{journal_order, journal_length, more_stuck, journal_marked}
 use Rattle.fields.specs.Bytes.{Bytes}
 use Rattle.plan.specs.Plan.{Plan, Valid, encode}
@@ -279,7 +279,7 @@ module _ (file : List ℕ) (bytes : Bytes file) (events : List EventRecord) {w v
       let (cs, g) = first.passes.0 ok in
       let p = first.plan in
       let ds : List Choice = accepted_in memory_source (opened_machine p w m) cs in
-      let reused = (rules-more memory_source (opened_machine p w m)).accepted_reused v more most cs in
+      let reused = (rules_more memory_source (opened_machine p w m)).accepted_reused v more most cs in
       let told_is : told p k v ds ≡ without_refusals (told p m w cs) =
       (demanded_first.runs k long v manned ds).answers_as_rules ∙ sym (demanded_first.runs m first.enough v manned ds).answers_as_rules ∙ reused.events in
       (ds, ap (λ x. journal_of (told x k v ds)) same_plan ∙ ap journal_of told_is ∙ ap (map record_of) (events_kept (told p m w cs)) ∙ g)

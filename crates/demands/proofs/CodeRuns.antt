@@ -32,7 +32,7 @@ use Rattle.state.specs.declared.State.{State}
 use Rattle.opening.specs.declared.Opening.{Opening}
 use Rattle.opening.specs.declared.Opened.{Opened}
 use Rattle.demands.proofs.Opens.{refusing, opened_run_lem}
-use Rattle.state.proofs.in_range.SoundLaws.{ended_is as ended-as-rules}
+use Rattle.state.proofs.in_range.SoundLaws.{ended_is as ended_as_rules}
 use Rattle.demands.proofs.Unchanged.{refused_unchanged}
 
 -- the calls' answers and the machine that they leave are those of the rules' lists of choices
@@ -84,7 +84,7 @@ module _ {file : List ℕ} (bytes : Bytes file) where
         record {
           events_are = told_is ∙ ap (λ a. answers memory_source a cs) begins;
           left_is = end;
-          ended_is = ended-as-rules s.state s.memory in_range ∙ ap ended end;
+          ended_is = ended_as_rules s.state s.memory in_range ∙ ap ended end;
         }
 
     -- it is a run of every valid plan with this file

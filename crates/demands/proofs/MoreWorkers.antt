@@ -11,7 +11,7 @@ use Rattle.rules.specs.RelatedSources.{map_machine}
 use Rattle.rules.specs.WholeRuns.{Accepted, with_workers}
 use Rattle.rules.specs.MoreWorkers.{accepted_choices, without_refusals, Known}
 use Rattle.rules.proofs.runs.AcceptedOnly.{events_accepted}
-use Rattle.rules.proofs.runs.MoreWorkers.{more_workers as rules-more}
+use Rattle.rules.proofs.runs.MoreWorkers.{more_workers as rules_more}
 use Rattle.fields.specs.Bytes.{Bytes}
 use Rattle.plan.specs.Plan.{Plan}
 use Rattle.tables.specs.State.{State}
@@ -63,14 +63,14 @@ module _ {file : List ℕ} (bytes : Bytes file) {workers : ℕ} {m : List ℕ} {
     alike : Every (Known workers) cs → AnsweredAlike s t
     unfolding opened
     alike known =
-        let r = (rules-more memory_source (begins workers)).answered_alike larger more (here bytes t).manned.most cs known
+        let r = (rules_more memory_source (begins workers)).answered_alike larger more (here bytes t).manned.most cs known
         ((here bytes s).demands.runs m (here bytes s).enough workers (here bytes s).manned cs).never_spoiled in
         record { told = told_as t ∙ r.told ∙ sym (run_here bytes s).events_are; left = left_as t r.left }
 
     reuse : Every Accepted (events_of s) → Reused s t
     unfolding opened
     reuse accepted =
-        let r = (rules-more memory_source (begins workers)).reused larger more (here bytes t).manned.most cs (rw (run_here bytes s).events_are at accepted) in
+        let r = (rules_more memory_source (begins workers)).reused larger more (here bytes t).manned.most cs (rw (run_here bytes s).events_are at accepted) in
         let events : events_of t ≡ events_of s = told_as t ∙ r.events ∙ sym (run_here bytes s).events_are in
         record { accepted = rw events accepted; events = events; left = left_as t r.left }
 
@@ -78,7 +78,7 @@ module _ {file : List ℕ} (bytes : Bytes file) {workers : ℕ} {m : List ℕ} {
   reuse_accepted : {larger : ℕ} {k : List ℕ} (t : Session file larger k (accepted_choices cs (events_of s))) → workers ≤ larger → AcceptedReused s t
   unfolding opened
   reuse_accepted {larger} t more =
-      let r = (rules-more memory_source (begins workers)).accepted_reused larger more (here bytes t).manned.most cs in
+      let r = (rules_more memory_source (begins workers)).accepted_reused larger more (here bytes t).manned.most cs in
       let same : events_of s ≡ told p m workers cs = (run_here bytes s).events_are in
       let events : events_of t ≡ without_refusals (events_of s) = told_as t ∙ rw same r.events in
       record { accepted = rw events (events_accepted (events_of s)); events = events; left = left_as t (rw same r.left) }

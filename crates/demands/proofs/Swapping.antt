@@ -7,7 +7,7 @@ use Rattle.rules.specs.Choices.{Choice, answers}
 use Rattle.rules.specs.WholeRuns.{Accepted}
 use Rattle.rules.specs.Answers.{answer_of}
 use Rattle.rules.specs.Swapping as rules
-use Rattle.rules.proofs.runs.Swapping.{swapping as rules-swapping}
+use Rattle.rules.proofs.runs.Swapping.{swapping as rules_swapping}
 use Rattle.vocabulary.specs.declared.answer.Answer.{Answer}
 use Rattle.fields.specs.Bytes.{Bytes}
 use Rattle.tables.specs.Calls.{memory_source}
@@ -29,7 +29,7 @@ module _ {file : List ℕ} (bytes : Bytes file) {workers : ℕ} {m : List ℕ} {
     by_rules : rules.Swapped memory_source (machine_of s.state s.memory) a b
     by_rules =
         let o = here bytes s in
-        rw (run_here bytes s).left_is ((rules-swapping (ranged o.valid) o.manned (memory_sheet o.plan o.valid m) cs).swapped a b apart
+        rw (run_here bytes s).left_is ((rules_swapping (ranged o.valid) o.manned (memory_sheet o.plan o.valid m) cs).swapped a b apart
         (rw (← (run_here bytes s).left_is, ← (calls_told one_way).0) accepted)
         (rw (← (run_here bytes s).left_is, ← (calls_told other_way).0) accepted'))
 

@@ -90,7 +90,7 @@ pub record CodeDemands {file : List ℕ} {workers : ℕ} {lent : List ℕ} {choi
   -- whatever the workers, the lent numbers and the choices: two sessions of this file that have ended left the same end state
   pub same_end : {w : ℕ} {m : List ℕ} {cs : List Choice} (t : Session file w m cs) → ended_of s.state ≡ true → ended_of t.state ≡ true →
       SameEnd s.state s.memory t.state t.memory
-  -- the one_worker_lem run: "All these choices are accepted, and the last stops"; it has ended
+  -- the one-worker run: "All these choices are accepted, and the last stops"; it has ended
   pub one_worker_lem : {m : List ℕ} (t : Session file 1 m (one_worker_choices plan)) → Every Accepted (events_of t)
   pub one_worker_stops : {m : List ℕ} (t : Session file 1 m (one_worker_choices plan)) (a : rules.Answer) →
       last_of a (events_of t) ≡ Stopped (length (order plan) % plan.lines) 0

@@ -117,7 +117,7 @@ module _ (p : Plan) (m : List ℕ) (workers : ℕ) (ls : List ℕ) where
   abbrev pub lines_told : List Answer
   lines_told = line_answers memory_source (opened (pipeline_of p) workers (begun p m)) ls
 
--- the choices of the one_worker_lem run
+-- the choices of the one-worker run
 abbrev pub one_worker_choices : Plan → List Choice
 one_worker_choices p = one_worker (pipeline_of p) 0 (length (order p))
 
@@ -132,7 +132,7 @@ pub record Demands (p : Plan) : Type 0 where
   pub same_end : (m k : List ℕ) (w v : ℕ) → WorkersInRange w → WorkersInRange v → (cs ds : List Choice) →
       ended (left p m w cs) ≡ true → ended (left p k v ds) ≡ true →
       end_state (left p m w cs) ≡ end_state (left p k v ds)
-  -- the one_worker_lem run: all its choices are accepted, the last stops, and it has ended
+  -- the one-worker run: all its choices are accepted, the last stops, and it has ended
   pub one_worker_lem : (m : List ℕ) → Every Accepted (told p m 1 (one_worker_choices p))
   pub one_worker_stops : (m : List ℕ) (a : Answer) → last_of a (told p m 1 (one_worker_choices p)) ≡ Stopped (length (order p) % p.lines) 0
   pub one_worker_ends : (m : List ℕ) → ended (left p m 1 (one_worker_choices p)) ≡ true

@@ -2,7 +2,7 @@
 #![tactic(auto)]
 
 ghost use Rattle.std.specs.Prelude.{◌≡◌};
-ghost use Rattle.rules.specs.Choices.{choices_in, choose as chosenBy, answers, follow};
+ghost use Rattle.rules.specs.Choices.{choices_in, choose as chosen_by, answers, follow};
 ghost use Rattle.tables.specs.Calls.{memory_source};
 ghost use Rattle.state.specs.Machines.{machine_of};
 ghost use Rattle.sink.specs.Sinks.{put_each};
@@ -14,9 +14,9 @@ use vocabulary::{Line, Worker};
 
 // One choice: the worker moves the line on, and the answer is printed.
 pub fn choose(session: Session, worker: u8, line: u8, mem: &mut [u16], out: &mut [u8]) -> Session
-    ensures run { machine_of result.state mem.new ≡ (chosenBy memory_source (machine_of session.state mem.old) worker line).machine }
+    ensures run { machine_of result.state mem.new ≡ (chosen_by memory_source (machine_of session.state mem.old) worker line).machine }
     ensures output { (result.sink, out.new) ≡
-        put_each (session.sink, out.old) (answer_texts (chosenBy memory_source (machine_of session.state mem.old) worker line).answer) }
+        put_each (session.sink, out.old) (answer_texts (chosen_by memory_source (machine_of session.state mem.old) worker line).answer) }
 {
     let state = session.state;
     let sink = session.sink;

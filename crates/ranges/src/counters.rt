@@ -5,7 +5,7 @@ ghost use Rattle.std.specs.Prelude.{◌≡◌, ◌<◌, ◌≤◌};
 ghost use Rattle.rules.specs.Lists.{every, table};
 ghost use Rattle.rules.specs.RunState.{full};
 ghost use Rattle.rules.specs.Ranges.{most_at, counter_sound};
-ghost use Rattle.ranges.specs.RangeParts.{larger as largerOf, smaller as smallerOf, raised_row, highest_row};
+ghost use Rattle.ranges.specs.RangeParts.{larger as larger_of, smaller as smaller_of, raised_row, highest_row};
 
 use crate::rows;
 use state::{COUNTERS_OF_LINE, FLAGS, SLOTS};
@@ -13,7 +13,7 @@ use vocabulary::PipeKind;
 
 // The smaller of two numbers.
 fn smaller(a: u8, b: u8) -> u8
-    ensures { result ≡ smallerOf a b }
+    ensures { result ≡ smaller_of a b }
 {
     if b < a {
         return b;
@@ -47,7 +47,7 @@ fn most_row(serial: &[bool; 16], pipes: usize) -> [u8; 16]
 
 // The larger of two counters.
 fn larger(a: u8, b: u8) -> u8
-    ensures { result ≡ largerOf a b }
+    ensures { result ≡ larger_of a b }
 {
     if a < b {
         return b;

@@ -9,7 +9,7 @@ mod slots;
 
 ghost use Rattle.std.specs.Prelude.{◌≡◌, List, ℕ, ◌<◌};
 ghost use Rattle.ranges.specs.RangeParts.{figures_sound};
-ghost use Rattle.ranges.specs.Surveys.{rows_sound, rest_sound, near as nearOf, spoiled, survey_of};
+ghost use Rattle.ranges.specs.Surveys.{rows_sound, rest_sound, near as near_of, spoiled, survey_of};
 
 use state::{Figures, MOST_LINES, MOST_PIPES, MOST_TOKENS, MOST_WORKERS, SLOTS};
 use vocabulary::{Pipe, Place, Slot, Slots, Token, Worker};
@@ -91,7 +91,7 @@ pub fn rest_sound(rows: bool, f: Figures, mem: &[u16]) -> bool
 
 // A line that has a slot: the given one, or 0.
 fn near(line: u16) -> usize
-    ensures same { result ≡ nearOf line }
+    ensures same { result ≡ near_of line }
     ensures small { result < 32 }
 {
     let line = line as usize;

@@ -4,7 +4,7 @@ ghost use Rattle.std.specs.Prelude.{◌≡◌, true, false, [], ◌∷◌, ◌�
 ghost use Rattle.rules.specs.Lists.{if, must, all};
 ghost use Rattle.rules.specs.Choices.{run_by};
 ghost use Rattle.rules.specs.Ranges.{is_idle, is_loaded, worker_sound};
-ghost use Rattle.ranges.specs.RangeParts.{larger as largerOf, found_of};
+ghost use Rattle.ranges.specs.RangeParts.{larger as larger_of, found_of};
 
 use crate::joint;
 use state::SLOTS;
@@ -19,7 +19,7 @@ pub struct Found {
 
 // The larger of two numbers.
 fn larger(a: u16, b: u16) -> u16
-    ensures { result ≡ largerOf a b }
+    ensures { result ≡ larger_of a b }
 {
     if a < b {
         return b;

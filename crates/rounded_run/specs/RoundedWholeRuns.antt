@@ -14,7 +14,7 @@ use Rattle.opening.specs.declared.Opening.TheVariants.{Accepted, Refused}
 use Rattle.rounding.specs.declared.run.Run.{Run}
 use Rattle.rounding.specs.Runs.{run_of, without_rounding}
 use Rattle.rounded_opening.specs.RoundedOpenings.{RoundedOpening, open_rounded_of}
-use Rattle.whole_run.specs.Checksums.{checksum as checksumOf}
+use Rattle.whole_run.specs.Checksums.{checksum as checksum_of}
 
 -- an opening without rounding: the figures stay
 abbrev pub opened_plain : List ℕ → ℕ → List ℕ → List ℕ → RoundedOpening
@@ -39,7 +39,7 @@ pub record WholeRun : Type 0 where
 -- choices "with the same cells throughout and the figures handed on as left", their answers added to a checksum
 unfoldable pub made_from : ℕ → paper.Run tables.State → List Choice → List ℕ → List ℕ → WholeRun
 made_from sum r choices cells figures = record {
-  told = checksumOf sum (answers_rounded memory_source r (handed_on memory_source cells r figures choices));
+  told = checksum_of sum (answers_rounded memory_source r (handed_on memory_source cells r figures choices));
   memory = (follow_rounded memory_source r (handed_on memory_source cells r figures choices)).machine.source.1;
   figures = figures_left memory_source cells r figures choices;
 }

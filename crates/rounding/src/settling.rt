@@ -1,7 +1,7 @@
 // What a choice that is accepted without rounding does to T and the figures.
 ghost use Rattle.std.specs.Prelude.{◌≡◌, leb, get_or, set};
 ghost use Rattle.rules.specs.Answers.{answer_of};
-ghost use Rattle.rules.specs.Rounding.{sum_most, sum_after, passing as passingBy};
+ghost use Rattle.rules.specs.Rounding.{sum_most, sum_after, passing as passing_by};
 ghost use Rattle.rounding.specs.Roundings.{rounding_of};
 ghost use Rattle.rounding.specs.Settlings.{passer, passer_of, is_known, settled_of, settle_by};
 
@@ -27,7 +27,7 @@ pub enum Settled {
 // Who passes by an answer.
 #[tactic(auto, using(crate::proofs::laws::Settlings::without, crate::proofs::laws::Settlings::here, crate::proofs::laws::Settlings::elsewhere, crate::proofs::laws::Settlings::by_start, crate::proofs::laws::Settlings::by_stop, crate::proofs::laws::Settlings::by_refusal), unfolding(rules::specs::Answers::answer_of))]
 fn who_passes(r: Rounding, answer: Answer) -> Passer
-    ensures { passer_of result ≡ passingBy (rounding_of r) (answer_of answer) }
+    ensures { passer_of result ≡ passing_by (rounding_of r) (answer_of answer) }
 {
     if r.base == 0 {
         return Passer::Nobody;

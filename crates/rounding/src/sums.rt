@@ -1,6 +1,6 @@
 // Published sums. No sum here wraps: a published sum of a 32-bit number is one too, as 3 and 5 divide the largest.
 ghost use Rattle.std.specs.Prelude.{◌≡◌, ◌+◌, ◌≤◌};
-ghost use Rattle.rules.specs.Rounding.{published as publishedBy, rise as riseBy};
+ghost use Rattle.rules.specs.Rounding.{published as published_by, rise as rise_by};
 ghost use Rattle.rounding.specs.Bases.{base_of};
 ghost use Rattle.rounding.specs.Passings.{pass_of};
 
@@ -25,7 +25,7 @@ pub enum Passing {
 // The multiple of 3 that is nearest to a sum.
 #[tactic(auto, unfolding(rules::specs::Rounding::published))]
 fn nearest_three(sum: u32) -> u32
-    ensures { result ≡ publishedBy 3 sum }
+    ensures { result ≡ published_by 3 sum }
 {
     let over = sum % 3;
     if 1 < over {
@@ -37,7 +37,7 @@ fn nearest_three(sum: u32) -> u32
 // The multiple of 5 that is nearest to a sum.
 #[tactic(auto, unfolding(rules::specs::Rounding::published))]
 fn nearest_five(sum: u32) -> u32
-    ensures { result ≡ publishedBy 5 sum }
+    ensures { result ≡ published_by 5 sum }
 {
     let over = sum % 5;
     if 2 < over {
@@ -48,7 +48,7 @@ fn nearest_five(sum: u32) -> u32
 
 // The published sum.
 pub(crate) fn published(base: Base, sum: u32) -> u32
-    ensures { result ≡ publishedBy (base_of base) sum }
+    ensures { result ≡ published_by (base_of base) sum }
 {
     match base {
         Base::Three => nearest_three(sum),
@@ -60,7 +60,7 @@ pub(crate) fn published(base: Base, sum: u32) -> u32
 #[tactic(auto, using(rules::proofs::rounding::Sums::published_rises, crate::proofs::laws::Bases::base_is), unfolding(rules::specs::Rounding::rise))]
 fn rise(base: Base, sum: u32, cell: u32) -> u32
     requires { sum + cell ≤ 4294967295 }
-    ensures { result ≡ riseBy (base_of base) sum cell }
+    ensures { result ≡ rise_by (base_of base) sum cell }
 {
     published(base, sum + cell) - published(base, sum)
 }

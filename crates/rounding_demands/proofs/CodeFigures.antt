@@ -32,7 +32,7 @@ use Rattle.tables.specs.Calls.{memory_source}
 use Rattle.loading.specs.Plans.{pipeline_of}
 use Rattle.state.specs.Machines.{machine_of}
 use Rattle.state.specs.Ending.{ended_of}
-use Rattle.state.proofs.in_range.SoundLaws.{ended_is as ended-as-rules}
+use Rattle.state.proofs.in_range.SoundLaws.{ended_is as ended_as_rules}
 use Rattle.opening.specs.Opened.{state_of}
 use Rattle.rounding.specs.declared.Rounding.{Rounding}
 use Rattle.rounding.specs.declared.run.Run.{Run}
@@ -174,7 +174,7 @@ module _ {file : List ℕ} (bytes : Bytes file) {workers : ℕ} {lent : List ℕ
 
   ended_here : ended_of s.run.state ≡ ended (left p lent workers choices)
   ended_here =
-      ended-as-rules s.run.state s.memory
+      ended_as_rules s.run.state s.memory
       (ap (sound memory_source) left_here ∙ left_sound (demands p here.valid) lent here.enough here.manned choices) ∙
       ap ended left_here
 

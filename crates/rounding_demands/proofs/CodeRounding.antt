@@ -25,7 +25,7 @@ use Rattle.tables.specs.Calls.{memory_source}
 use Rattle.loading.specs.Plans.{pipeline_of}
 use Rattle.state.specs.Machines.{machine_of}
 use Rattle.state.specs.Ending.{ended_of}
-use Rattle.state.proofs.in_range.SoundLaws.{ended_is as ended-as-rules}
+use Rattle.state.proofs.in_range.SoundLaws.{ended_is as ended_as_rules}
 use Rattle.opening.specs.declared.Opening.{Opening}
 use Rattle.opening.specs.Opened.{state_of, open_of, refused_with}
 use Rattle.rounding.specs.declared.run.Run.{Run}
@@ -130,7 +130,7 @@ module _ {file : List ℕ} (bytes : Bytes file) {workers : ℕ} {lent : List ℕ
     machine_here = ap (λ (x : paper.Run tables.State). x.machine) left_here ∙ rounded_here.1.machine_is
 
     ended_here : ended_of s.run.state ≡ ended (machine_of s.run.state s.memory)
-    ended_here = ended-as-rules s.run.state s.memory
+    ended_here = ended_as_rules s.run.state s.memory
         (ap (sound memory_source) machine_here ∙ left_sound (demands p here.valid) lent here.enough here.manned chosen)
 
     accepted_is : accepted_in s ≡ chosen

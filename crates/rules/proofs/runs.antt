@@ -11,7 +11,7 @@ pub mod Count
 pub mod Final
 -- each place once at each pipe;
 pub mod Marks
--- the one_worker_lem run, and lines listed alone where there is one worker;
+-- the one-worker run, and lines listed alone where there is one worker;
 pub mod OneWorker
 pub mod LinesAlone
 -- no worker runs two lines;

@@ -2,7 +2,7 @@
 #![tactic(auto)]
 
 ghost use Rattle.std.specs.Prelude.{◌≡◌, length};
-ghost use Rattle.sink.specs.Sinks.{written as written_of, digested as digestedOf, mixed, digest_of, flushed_of, fits_of, stored_of, put_of};
+ghost use Rattle.sink.specs.Sinks.{written as written_of, digested as digested_of, mixed, digest_of, flushed_of, fits_of, stored_of, put_of};
 
 // Standard output's number.
 const STDOUT: i32 = 1;
@@ -48,7 +48,7 @@ impl Sink {
     // Output to a digest.
     #[tactic(auto, unfolding(crate::specs::Sinks::written, crate::specs::Sinks::digested))]
     pub fn digested() -> Self
-        ensures { result ≡ digestedOf }
+        ensures { result ≡ digested_of }
     {
         let mut sink = Self::written();
         sink.digests = true;

@@ -5,8 +5,8 @@ mod ending;
 mod limits;
 
 ghost use Rattle.std.specs.Prelude.{◌≡◌, true, List, ℕ};
-ghost use Rattle.rules.specs.Ranges.{sound as soundBy};
-ghost use Rattle.rules.specs.Choices.{ended as endedBy};
+ghost use Rattle.rules.specs.Ranges.{sound as sound_by};
+ghost use Rattle.rules.specs.Choices.{ended as ended_by};
 ghost use Rattle.tables.specs.Calls.{memory_source};
 ghost use Rattle.state.specs.Machines.{machine_of, slots_of, figures_of};
 ghost use Rattle.state.specs.Ending.{ended_of};
@@ -90,7 +90,7 @@ impl State {
 // Whether the run has ended; no where a line or a pipe lies outside the tables.
 pub fn ended(s: State) -> bool
     ensures answer { result ≡ ended_of s }
-    ensures rules { (m : List ℕ) → soundBy memory_source (machine_of s m) ≡ true → result ≡ endedBy (machine_of s m) }
+    ensures rules { (m : List ℕ) → sound_by memory_source (machine_of s m) ≡ true → result ≡ ended_by (machine_of s m) }
 {
     let slots = s.slots();
     is_over(s.stopped, s.lines, slots, &s.counters)

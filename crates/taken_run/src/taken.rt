@@ -3,7 +3,7 @@ ghost use Rattle.std.specs.Prelude.{◌≡◌};
 ghost use Rattle.rules.specs.Choices.{choices_in, answers, follow as followed};
 ghost use Rattle.tables.specs.Calls.{memory_source};
 ghost use Rattle.state.specs.Machines.{machine_of};
-ghost use Rattle.whole_run.specs.Checksums.{checksum as checksumOf};
+ghost use Rattle.whole_run.specs.Checksums.{checksum as checksum_of};
 ghost use Rattle.taken_run.specs.Takings.{taking_of};
 
 use state::State;
@@ -29,7 +29,7 @@ fn taking_of(answer: Answer) -> Taking
 
 // Offers each choice, then takes the event that was offered; where none was, nothing is called.
 pub(crate) fn follow_taken(state: State, choices: &[u8], mem: &mut [u16]) -> u64
-    ensures answer { result ≡ checksumOf 0 (answers memory_source (machine_of state mem.old) (choices_in choices.now)) }
+    ensures answer { result ≡ checksum_of 0 (answers memory_source (machine_of state mem.old) (choices_in choices.now)) }
     ensures memory { mem.new ≡ (followed memory_source (machine_of state mem.old) (choices_in choices.now)).source.1 }
 {
     let mut now = state;

@@ -2,7 +2,7 @@
 #![tactic(auto)]
 
 ghost use Rattle.std.specs.Prelude.{◌≡◌, ◌≤◌, length, drop};
-ghost use Rattle.words.specs.Words.{up_to, past, same as sameOf};
+ghost use Rattle.words.specs.Words.{up_to, past, same as same_of};
 ghost use Rattle.words.specs.Numbers.{number_of, short_of};
 
 // A number of at most 32 bits, or none.
@@ -50,7 +50,7 @@ pub fn find_past(text: &[u8], stop: u8) -> usize
 // Whether a word is this one.
 #[tactic(auto, using(crate::proofs::Walks::same_sizes, crate::proofs::Walks::same_turn, crate::proofs::Walks::same_not, crate::proofs::Walks::same_end))]
 pub fn same(word: &[u8], other: &[u8]) -> bool
-    ensures { result ≡ sameOf word.now other.now }
+    ensures { result ≡ same_of word.now other.now }
 {
     if word.len() != other.len() {
         return false;

@@ -12,7 +12,7 @@ use Rattle.rules.specs.Choices.{Chosen, Answer, Started, Finished, Stopped, next
 use Rattle.rules.specs.Sources.{Source}
 use Rattle.rules.specs.Sources.{Passed}
 use Rattle.rules.specs.Choices.{start_first, start_later, start, settle, finish_with, finish_first}
-use Rattle.rules.specs.Choices.{finish as finishMachine}
+use Rattle.rules.specs.Choices.{finish as finish_machine}
 use Rattle.rules.proofs.lists.Tests.{same, other, same_as, holds, fails, see, pos_eqb, never}
 use Rattle.rules.proofs.standing.Standing.{Standing, serial_at, begin, finish, same_place}
 use Rattle.rules.proofs.standing.Begin.{begin_good, begin_busy}
@@ -118,8 +118,8 @@ module _ {X : Type 0} {S : Source X} {plan : Pipeline} {workers : ℕ} {order : 
         e ∙ ap (runs (g.pipe l) (get_or order (g.place l) 0) (g.place l)) (sym (ap (λ (s : Slot). s.worker.0) e) ∙ own)
 
     -- a finish past pipe 0
-    later_finish : (m : g.pipe l ≡ 0 → ⊥) → Move S plan workers order z st g w l (finishMachine S (whole plan workers st) l)
-    unfolding finishMachine leaves
+    later_finish : (m : g.pipe l ≡ 0 → ⊥) → Move S plan workers order z st g w l (finish_machine S (whole plan workers st) l)
+    unfolding finish_machine leaves
     later_finish m =
         let r = finished st.source in
         finishes (leaves r.0 st.source)
@@ -144,8 +144,8 @@ module _ {X : Type 0} {S : Source X} {plan : Pipeline} {workers : ℕ} {order : 
     ]
 
     -- a finish at pipe 0, of the token that was placed last
-    first_finish : g.pipe l ≡ 0 → Move S plan workers order z st g w l (finishMachine S (whole plan workers st) l)
-    unfolding finishMachine finish_first leaves
+    first_finish : g.pipe l ≡ 0 → Move S plan workers order z st g w l (finish_machine S (whole plan workers st) l)
+    unfolding finish_machine finish_first leaves
     first_finish e = elim inv.feed [
       | free s p none m y ↦ absurd (none l (record { within = i; first = e; runs = b }))
       | closed j f s p m o q ↦ absurd (n s e)
@@ -168,7 +168,7 @@ module _ {X : Type 0} {S : Source X} {plan : Pipeline} {workers : ℕ} {order : 
     ]
 
     -- a running line's finish is a move
-    pub finish_move : Move S plan workers order z st g w l (finishMachine S (whole plan workers st) l)
+    pub finish_move : Move S plan workers order z st g w l (finish_machine S (whole plan workers st) l)
     finish_move = elim (same_as (g.pipe l) 0) [ same e t ↦ first_finish e | other m t ↦ later_finish m ]
 
   module _ (b : g.busy l ≡ false) (c : get_or st.counters (16 * l + g.pipe l) 0 ≡ 0) where

@@ -51,7 +51,7 @@ mark_next lines some p k i e = elim (same_as i k) [
 ]
 
 module _ {plan : Pipeline} (ranged : PipelineInRange plan) {g : Standing} (ok : Good plan g) (l : ℕ) (i : l < plan.lines) (p k : ℕ) where
-  -- the places of another line, and other pipes, do not same_pair with this one's
+  -- the places of another line, and other pipes, are not the same pair as this one's
   apart : (k % plan.lines ≡ l → p ≡ g.pipe l → ⊥) → same_pair p k (g.pipe l) (g.place l) ≡ 0
   apart n = other_pair p k (g.pipe l) (g.place l) (λ q e. n (ap (λ m. m % plan.lines) (sym e) ∙ ok.line l i) (sym q))
 

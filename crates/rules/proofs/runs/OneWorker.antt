@@ -1,4 +1,4 @@
--- The one_worker_lem run: its choices are all accepted.
+-- The one-worker run: its choices are all accepted.
 use mathlib.Core.Path.{◌≡◌, sym, ap, ◌∙◌}
 use mathlib.Core.Bool.{Bool, true, false}
 use mathlib.Core.List.{List, [], ◌∷◌, ◌++◌}
@@ -217,7 +217,7 @@ module _ {X : Type 0} (S : Source X) (plan : Pipeline) (order : List ℕ) (z : X
     close_run e (starts st' f m) = absurd (f.later (quiet.first (k % plan.lines) quiet_in))
     close_run e (finishes st' f m) = absurd (never (sym f.runs ∙ quiet.rests (k % plan.lines) quiet_in))
 
-  -- from a quiet state the one_worker_lem run goes through
+  -- from a quiet state the one-worker run goes through
   pub one_worker_lem : (places k : ℕ) → k + places ≡ length order → (st : State X) (g : Standing) → Quiet k st g → AllAccepted (one_worker plan k places) st
   unfolding one_worker
   one_worker_lem zero k e st g quiet = close_run k st g quiet (omega arith) (quiet_move k st g quiet)
@@ -226,7 +226,7 @@ module _ {X : Type 0} (S : Source X) (plan : Pipeline) (order : List ℕ) (z : X
       let h : 2 * plan.pipes ≡ suc n = omega (arith, ok.ranged.pipes_some) in
       rw h (round k st g quiet (one_worker plan (suc k) places) (one_worker_lem places (suc k) (omega arith)) n h (omega arith) (quiet_move k st g quiet))
 
--- the one_worker_lem run has 2 · P choices a place, and one more
+-- the one-worker run has 2 · P choices a place, and one more
 pub length_one_worker : (plan : Pipeline) (k places : ℕ) → length (one_worker plan k places) ≡ 2 * places * plan.pipes + 1
 unfolding one_worker
 length_one_worker plan k zero = omega arith

@@ -191,14 +191,14 @@ module _ {X : Type 0} {S : Source X} {plan : Pipeline} (ranged : PipelineInRange
   one_manned : WorkersInRange 1
   one_manned = record { some = omega arith; most = omega arith }
 
-  -- (f) the one_worker_lem run: all its choices are accepted, the last stops, and it has ended
+  -- (f) the one-worker run: all its choices are accepted, the last stops, and it has ended
   pub one_worker_accepted : Every Accepted (events S plan 1 x (one_worker plan 0 (length order))) ×
       ((a : Answer) → last_of a (events S plan 1 x (one_worker plan 0 (length order))) ≡ Stopped (length order % plan.lines) 0)
   unfolding opened
   one_worker_accepted = one_worker_lem S plan order z (allowed ranged one_manned sheet) (length order) 0 (omega arith) (opening plan x) at_opening
       (record { kept = opening_inv ranged one_manned sheet.writes; live = refl; placed = refl; first = λ j h. refl; rests = λ j h. refl })
 
-  -- so the one_worker_lem run has ended
+  -- so the one-worker run has ended
   pub one_worker_ends : ended (end S plan 1 x (one_worker plan 0 (length order))) ≡ true
   one_worker_ends =
       let cs : List Choice = one_worker plan 0 (length order) in

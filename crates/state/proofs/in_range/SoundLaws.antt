@@ -23,7 +23,7 @@ use Rattle.state.specs.Machines.{whole, Ready}
 use Rattle.rules.proofs.lists.Tests.{by_test, if_same}
 use Rattle.rules.proofs.lists.EveryBelow.{every_fails}
 use Rattle.rules.proofs.choices.SoundMachines.{pipe_in}
-use Rattle.rules.proofs.choices.SoundMachines.{pipes_most as most-pipes, lines_most as most-lines}
+use Rattle.rules.proofs.choices.SoundMachines.{pipes_most as most_pipes, lines_most as most_lines}
 
 module _ (a : Machine tables.State) (ok : sound memory_source a ≡ true) where
   -- a line's slot
@@ -31,10 +31,10 @@ module _ (a : Machine tables.State) (ok : sound memory_source a ≡ true) where
   slot_in l = slot_at a.slots l
 
   lines_most : a.lines ≤ 32
-  lines_most = most-lines memory_source a ok
+  lines_most = most_lines memory_source a ok
 
   pipes_most : a.pipes ≤ 16
-  pipes_most = most-pipes memory_source a ok
+  pipes_most = most_pipes memory_source a ok
 
   -- each line is at a pipe of the plan
   pipe_less : (l : ℕ) → l < 32 → (slot_in l).pipe.0 < a.pipes
