@@ -13,6 +13,7 @@ use tables::LENT;
 use vocabulary::Refusal;
 
 // What loading a plan from its file answers: refused with 1 to 9, or accepted. Nothing is written.
+#[tactic(auto, using(crate::proofs::loading::LoadCases::no_worker, crate::proofs::loading::LoadCases::many_workers, crate::proofs::loading::LoadCases::little_memory, crate::proofs::loading::LoadCases::accepts))]
 pub fn preview(file: &[u8], workers: u16, mem: &[u16]) -> Reading
     ensures { result ≡ reading_of (load_of file.now workers mem.now).0 }
 {
