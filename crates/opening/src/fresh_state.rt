@@ -22,6 +22,7 @@ pub(crate) fn serials(bytes: &[u8]) -> [bool; 16]
 }
 
 // The counter of a line and pipe: line 0 pipe 0 has 0; pipe 0 of other lines 1; other pipes of line 0 have 1; the rest are full.
+#[tactic(auto, using(rules::proofs::lists::Tests::tests), unfolding(rules::specs::Choices::opened_counter))]
 fn counter(line: usize, pipe: usize, serial: bool) -> u8
     ensures { result ≡ opened_counter line pipe serial }
 {
@@ -54,6 +55,7 @@ pub(crate) fn counters(serial: [bool; 16], pipes: usize, lines: usize) -> [u8; 5
 }
 
 // A state whose lines wait at pipe 0 and that has placed no token.
+#[tactic(auto, unfolding(rules::specs::RunState::all_idle))]
 pub(crate) fn fresh(
     pipes: u16,
     lines: u16,
