@@ -1,5 +1,5 @@
 -- Choices and join counters (01, "Choices and join counters"), over any source of tokens.
-use Rattle.std.specs.Prelude.{Bool, true, false, not, List, [], ◌∷◌, ℕ, zero, suc, ◌+◌, ◌-◌, ◌/◌, ◌%◌, ltb, eqb, get_or, set}
+use Rattle.std.specs.Prelude.{Bool, true, false, not, List, [], ◌∷◌, ℕ, zero, suc, ◌-◌, ◌/◌, ◌%◌, ltb, eqb, get_or, set}
 use Rattle.rules.specs.Lists.{if, must, must_not, all, table}
 use Rattle.rules.specs.Sources.{Source, Taken, Spoiled, Nothing, Took, Released, Broken, Passed}
 use Rattle.rules.specs.RunState.{Pipeline, Machine, idle, runs, waits, slot_at, put_slot, all_idle, counter_at, slot_of, counter_of, is_serial, full}

@@ -1,5 +1,5 @@
 -- The rounding paper (02, 2.2), over any source of tokens: one serial pipe publishes each token's cell rounded, and carries the rest on.
-use Rattle.std.specs.Prelude.{Bool, true, false, not, List, [], ◌∷◌, ℕ, ◌+◌, ◌-◌, ◌*◌, ◌/◌, leb, ltb, eqb, length, get_or, set, replicate}
+use Rattle.std.specs.Prelude.{Bool, true, false, List, [], ◌∷◌, ℕ, ◌+◌, ◌-◌, ◌*◌, ◌/◌, leb, ltb, eqb, length, get_or, set, replicate}
 use Rattle.rules.specs.Lists.{if, must, must_not, all, every}
 use Rattle.rules.specs.Sources.{Source}
 use Rattle.rules.specs.RunState.{Pipeline, Machine}

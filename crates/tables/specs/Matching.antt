@@ -3,7 +3,6 @@ use Rattle.std.specs.Prelude.{◌≡◌, Bool, true, false, not, List, [], ◌�
 use Rattle.rules.specs.Lists.{keep, has, empty, times, Every}
 use Rattle.rules.specs.TakingTokens.{Held, tokens_of}
 use Rattle.rules.specs.TakingTokens as rules
-use Rattle.tables.specs.declared.Tables.{Tables}
 use Rattle.tables.specs.declared.Numbers.{Numbers}
 use Rattle.tables.specs.Layout.{lent, no_mark, deferred_mark, ready_mark, finished_mark, facts_of}
 use Rattle.tables.specs.Facts.{standing_of, numbers_of}

@@ -6,7 +6,7 @@ use native.Mathlib.Omega.{arith}
 use native.Mathlib.Nat.{mod-lt}
 use borrow.Author.Tests.{not-true, lt-ltb, le-leb}
 use lib.ListN.{length, get_or}
-use Rattle.rules.specs.Lists.{keep, has, empty, range}
+use Rattle.rules.specs.Lists.{keep, empty, range}
 use Rattle.rules.specs.Sources.{Source}
 use Rattle.rules.specs.RunState.{Machine}
 use Rattle.rules.specs.Ranges.{sound}

@@ -5,7 +5,6 @@ use Prim.Native.Nat.{ℕ}
 use Rattle.rules.specs.RunState.{Pipeline, Machine}
 use Rattle.rules.specs.Sources.{Source}
 use Rattle.rules.specs.Choices.{Chosen, Answer, choose}
-use Rattle.rules.proofs.lists.Tests.{holds}
 use Rattle.rules.proofs.standing.Standing.{Standing}
 use Rattle.rules.proofs.invariant.Invariant.{Allowed, State, whole, Inv}
 use Rattle.rules.proofs.choices.Moves.{stops, enters, starts, finishes, Next}

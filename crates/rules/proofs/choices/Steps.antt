@@ -10,7 +10,7 @@ use Rattle.rules.specs.RunState.{Pipeline, slot_at, slot_of, counter_of}
 use Rattle.rules.specs.Choices.{Chosen, refuse}
 use Rattle.rules.specs.Sources.{Source}
 use Rattle.rules.specs.Ranges.{sound}
-use Rattle.rules.specs.Choices.{ended, at_work, move, choose}
+use Rattle.rules.specs.Choices.{ended, at_work, choose}
 use Rattle.rules.proofs.lists.Tests.{same, other, same_as, lower, upper, below, holds, fails, see, never}
 use Rattle.rules.proofs.standing.Standing.{Standing, serial_at, waiting, turn, start_busy, turn_no}
 use Rattle.rules.proofs.standing.Begin.{waiting_busy}

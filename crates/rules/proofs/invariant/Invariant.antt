@@ -11,8 +11,6 @@ use Rattle.vocabulary.specs.declared.Slots.{Slots}
 use Rattle.rules.specs.Lists.{if}
 use Rattle.rules.specs.RunState.{Pipeline, Machine, idle, runs, waits, slot_at, full}
 use Rattle.rules.specs.Sources.{Source, Writes, close, write, Passed}
-use Rattle.rules.specs.Ranges.{sound}
-use Rattle.rules.specs.Lists.{within}
 use Rattle.rules.specs.WholeRuns.{PipelineInRange, WorkersInRange}
 use Rattle.rules.proofs.lists.SlotRows.{Sized}
 use Rattle.rules.proofs.standing.Standing.{finish_past, Standing, serial_at, Good, waiting, turn}

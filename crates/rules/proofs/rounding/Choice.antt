@@ -5,7 +5,6 @@ use Prim.Native.Nat.{ℕ, ◌≤◌, ◌<◌}
 use native.Mathlib.Omega.{arith}
 use lib.Dec.{leb}
 use borrow.Author.Tests.{leb-true, leb-false}
-use Rattle.rules.specs.Lists.{every}
 use Rattle.rules.specs.Sources.{Source}
 use Rattle.rules.specs.Choices.{Answer, Started, Finished, Stopped, Refused, Chosen, choose_by}
 use Rattle.rules.specs.Offers.{is_refused}

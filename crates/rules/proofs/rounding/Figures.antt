@@ -11,7 +11,7 @@ use Rattle.rules.specs.Sources.{Source}
 use Rattle.rules.specs.Choices.{Choice}
 use Rattle.rules.specs.Rounding.{rise, Rounding, Passing, NonePasses, Passes, passing, figures_after, Run, Lending, choose_rounded}
 use Rattle.rules.specs.RoundedRuns.{sum_of, PassedCell, tokens_in, cells_in, figures_in, add_passed, passed_cells, handed_on, figures_left}
-use Rattle.rules.proofs.lists.Tests.{same, other, lower, upper, below}
+use Rattle.rules.proofs.lists.Tests.{lower, upper, below}
 use Rattle.rules.proofs.lists.Counting.{members, same_number}
 use Rattle.rules.proofs.rounding.Choice.{spoiled, own, unfit, too_much, accepts, case}
 use Rattle.rules.proofs.rounding.Passers.{passing_refused}

@@ -1,13 +1,13 @@
 -- A choice in a run with rounding: it is refused, not with 14, or goes on as it would without rounding, and a cell may pass by it.
 use mathlib.Core.Path.{◌≡◌, refl, sym, ap, ◌∙◌}
-use mathlib.Core.Bool.{true, false, not}
+use mathlib.Core.Bool.{true, false}
 use mathlib.Core.List.{List, [], ◌∷◌, ◌++◌}
 use Prim.Native.Nat.{ℕ, ◌+◌, ◌*◌, ◌≤◌, ◌<◌}
 use native.Mathlib.Omega.{arith}
 use lib.Dec.{leb}
 use lib.ListN.{length, get_or, set, length-append, get_or-eq_default}
 use borrow.Author.Tests.{leb-true, le-leb, lt-ltb, eq-eqb, ne_eqb}
-use Rattle.rules.specs.Lists.{every, Every}
+use Rattle.rules.specs.Lists.{Every}
 use Rattle.rules.specs.Sources.{Source}
 use Rattle.rules.specs.RunState.{Pipeline, Machine}
 use Rattle.rules.specs.Choices.{Choice, Answer, Refused, Chosen, opened, choose_by}

@@ -8,7 +8,7 @@ use lib.ListN.{length, get_or}
 use Rattle.rules.specs.Lists.{if, Every}
 use Rattle.rules.specs.Sources.{Source}
 use Rattle.rules.specs.RunState.{Pipeline, Machine}
-use Rattle.rules.specs.Choices.{Choice, Answer, Chosen, opened, choose_by, answers, follow}
+use Rattle.rules.specs.Choices.{Choice, Answer, Chosen, choose_by, answers, follow}
 use Rattle.rules.specs.WholeRuns.{PipelineInRange, WorkersInRange, Sheet, Accepted, events}
 use Rattle.rules.specs.Swapping.{Swapped, Swapping}
 use Rattle.rules.specs.Rounding.{Rounding, with_sum, Passing, NonePasses, Passes, finisher, passing, sum_after, figures_after}

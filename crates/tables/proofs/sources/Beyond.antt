@@ -6,9 +6,9 @@ use Prim.Native.Nat.{ℕ, suc, ◌+◌, ◌-◌, ◌<◌, ◌≤◌}
 use native.Mathlib.Omega.{arith}
 use borrow.Author.Tests.{ltb-true, leb-true, leb-false}
 use lib.Dec.{leb, ltb, eqb}
-use lib.ListN.{length, take, drop, set, replicate, length-append, length-map, length-set, length-replicate, get_or-append}
+use lib.ListN.{length, drop, set, replicate, length-append, length-map, length-set, length-replicate, get_or-append}
 use lib.Seq.{sets, length-sets, set-append_left, take-append-le}
-use Rattle.rules.specs.Lists.{any, has, range, Below}
+use Rattle.rules.specs.Lists.{any, has, Below}
 use Rattle.rules.specs.Sources.{Taken as Outcome, Spoiled, Nothing, Took, Released, Broken, Passed}
 use Rattle.rules.specs.RelatedSources.{map_taken, map_released, Follows}
 use Rattle.rules.proofs.lists.Tests.{by_test}

@@ -13,7 +13,6 @@ use Rattle.rules.specs.Sources.{Source, Taken as Outcome, Spoiled, Nothing, Took
 use Rattle.rules.specs.PlainSheet.{offered, plain_source}
 use Rattle.rules.specs.RelatedSources.{map_taken, map_released, Follows}
 use Rattle.rules.proofs.lists.Tests.{by_test}
-use Rattle.tables.specs.declared.Tables.{Tables}
 use Rattle.tables.specs.State.{State, sound_of}
 use Rattle.tables.specs.Taking.{take_of}
 use Rattle.tables.specs.Releasing.{release_of}
