@@ -1,9 +1,11 @@
 // Standard input: a buffer, of which a part is not served yet.
 ghost use Rattle.std.specs.Prelude.{◌≡◌, ◌+◌, ◌≤◌, length};
+ghost use Rattle.io.specs.Counts.{IsPrefixLen};
 ghost use Rattle.words.specs.Words.{up_to};
 ghost use Rattle.console.specs.Inputs.{Within, Arrived, pending, no_input, last_input, input_from, too_long, passed_line, passed_long, ended_with};
 
-use libc::STDIN_FILENO;
+use std::io::Read;
+use std::rt::Stdin;
 
 const NEWLINE: u8 = 10;
 
@@ -125,15 +127,25 @@ fn end_last(kept: usize, buffer: &mut [u8]) -> Input
     Input::last(kept + 1)
 }
 
+// Reads some of the input to the front of a buffer; no bytes where it has ended, and where it can't be read.
+fn read_some(stdin: Stdin, buffer: &mut [u8]) -> usize
+    ensures { IsPrefixLen result buffer.new }
+{
+    let mut input = stdin;
+    match input.read(buffer) {
+        Ok(count) => count,
+        Err(_) => 0,
+    }
+}
+
 // Reads more of the input, behind what is left of it.
-pub(crate) fn read_more(input: Input, buffer: &mut [u8]) -> Input
+pub(crate) fn read_more(stdin: Stdin, input: Input, buffer: &mut [u8]) -> Input
     requires { Within (length buffer.old) input }
     ensures within { Within (length buffer.new) result }
     ensures reads { Arrived input (pending input buffer.old) result buffer.new }
 {
     let kept = serving::keep_rest(buffer, input.at, input.end);
-    let got = libc::read(STDIN_FILENO, &mut buffer[kept..]);
-    let count = io::count(got, &buffer[kept..]);
+    let count = read_some(stdin, &mut buffer[kept..]);
     if count == 0 {
         return end_last(kept, buffer);
     }

@@ -15,6 +15,7 @@ use answering::Talk;
 use commands::{Command, MOST_OF_LINE, RoundingAt};
 use input::Input;
 use printing::Sink;
+use std::rt::Stdin;
 
 // What the console keeps beside its buffers: the run and its output, the plan file's size, which input is not served yet, and whether
 // all is done.
@@ -27,12 +28,18 @@ pub struct Console {
 }
 
 // `plan PATH`: the file is kept for later commands.
-fn take_plan(was: Console, path: &[u8], file: &mut [u8], out: &mut [u8]) -> Console
+fn take_plan(
+    rt: &HostRuntime,
+    was: Console,
+    path: &[u8],
+    file: &mut [u8],
+    out: &mut [u8],
+) -> Console
     ensures { Planned was out.old result file.new out.new }
 {
     let talk = was.talk;
     let input = was.input;
-    let size = files::read(path, file);
+    let size = files::read(rt, path, file);
     let told = answering::answer_plan(talk, &file[..size], out);
     Console {
         talk: told,
@@ -51,6 +58,7 @@ fn cells_buffer() -> [u8; 16388]
 
 // `open W PIPE BASE PATH`: the cells are kept for later choices.
 fn take_cells(
+    rt: &HostRuntime,
     was: Console,
     asked: RoundingAt,
     path: &[u8],
@@ -68,7 +76,7 @@ fn take_cells(
     let input = was.input;
     let size = was.size;
     let mut bytes = cells_buffer();
-    let found = files::read(path, &mut bytes);
+    let found = files::read(rt, path, &mut bytes);
     let many = cells::read_cells(&bytes[..found], cells);
     let told = answering::answer_open_rounded(
         talk,
@@ -104,7 +112,14 @@ fn journal_buffer() -> [u8; 1441814]
 }
 
 // `mark W PATH`: the journal is marked in lent numbers of its own.
-fn take_journal(was: Console, workers: u16, path: &[u8], file: &[u8], out: &mut [u8]) -> Console
+fn take_journal(
+    rt: &HostRuntime,
+    was: Console,
+    workers: u16,
+    path: &[u8],
+    file: &[u8],
+    out: &mut [u8],
+) -> Console
     requires { was.size ≤ length file.now }
     ensures { Marked workers was file.now out.old result out.new }
 {
@@ -113,7 +128,7 @@ fn take_journal(was: Console, workers: u16, path: &[u8], file: &[u8], out: &mut 
     let size = was.size;
     let mut journal = journal_buffer();
     let mut mem = fresh_numbers();
-    let count = files::read(path, &mut journal);
+    let count = files::read(rt, path, &mut journal);
     let told = answering::answer_mark(
         talk,
         &file[..size],
@@ -146,6 +161,7 @@ fn finish(was: Console) -> Console
 
 // Does what a line asks for that is the program's own; only such a line is left by `serve` (`left_is_own`).
 fn obey(
+    rt: &HostRuntime,
     was: Console,
     line: &[u8],
     file: &mut [u8],
@@ -161,14 +177,24 @@ fn obey(
         result file.new (lent_of mem.new cells.new figures.new) out.new }
 {
     match commands::parse(line) {
-        Command::Plan(start) => take_plan(was, &line[start..], file, out),
+        Command::Plan(start) => take_plan(rt, was, &line[start..], file, out),
         Command::OpenRounded(asked) => {
             let start = asked.start;
-            take_cells(was, asked, &line[start..], file, mem, cells, figures, out)
+            take_cells(
+                rt,
+                was,
+                asked,
+                &line[start..],
+                file,
+                mem,
+                cells,
+                figures,
+                out,
+            )
         }
         Command::Mark(journal) => {
             let start = journal.start;
-            take_journal(was, journal.workers, &line[start..], file, out)
+            take_journal(rt, was, journal.workers, &line[start..], file, out)
         }
         Command::Quit => finish(was),
         Command::Open(_) => was,
@@ -184,6 +210,7 @@ fn obey(
 
 // The next line, of so many bytes, is the program's own.
 fn own_line(
+    rt: &HostRuntime,
     was: Console,
     size: usize,
     file: &mut [u8],
@@ -210,7 +237,7 @@ fn own_line(
         input: input.from(stop + 1),
         done: was.done,
     };
-    obey(next, &buffer[at..stop], file, mem, cells, figures, out)
+    obey(rt, next, &buffer[at..stop], file, mem, cells, figures, out)
 }
 
 // What is left of the input, with no newline, where it is too long for a line: it is answered once, and passed over.
@@ -240,7 +267,7 @@ fn refuse_long(was: Console, out: &mut [u8]) -> Console
 }
 
 // No whole line is left: what is answered is written out, and more input is read, unless it has ended.
-fn wait(was: Console, buffer: &mut [u8], out: &mut [u8]) -> Console
+fn wait(stdin: Stdin, was: Console, buffer: &mut [u8], out: &mut [u8]) -> Console
     requires { Within (length buffer.old) was.input }
     ensures kept { (result.size ≡ was.size) × Within (length buffer.new) result.input }
     ensures waits { Waited was buffer.old out.old result buffer.new out.new }
@@ -261,7 +288,7 @@ fn wait(was: Console, buffer: &mut [u8], out: &mut [u8]) -> Console
             sink: written,
         },
         size: left.size,
-        input: input::read_more(input, buffer),
+        input: input::read_more(stdin, input, buffer),
         done: left.done,
     }
 }
@@ -306,6 +333,7 @@ fn answer_lines(
 
 // Answers what was read; then there is a line that is the program's own, or more is to be read.
 fn turn(
+    rt: &HostRuntime,
     was: Console,
     file: &mut [u8],
     mem: &mut [u16],
@@ -323,9 +351,9 @@ fn turn(
     let input = left.input;
     let size = input::line_size(input, buffer);
     if input.end - input.at <= size {
-        return wait(left, buffer, out);
+        return wait(rt.stdin(), left, buffer, out);
     }
-    own_line(left, size, file, mem, cells, figures, buffer, out)
+    own_line(rt, left, size, file, mem, cells, figures, buffer, out)
 }
 
 // The state of zeros without rounding, an empty plan file and no input.
@@ -351,6 +379,7 @@ fn begin(mem: &mut [u16]) -> Console
 // A proved loop has to end, and nothing says that the input does: so the loop counts its turns down, from a number that no
 // input uses up.
 fn run(
+    rt: &HostRuntime,
     first: Console,
     file: &mut [u8],
     mem: &mut [u16],
@@ -366,7 +395,7 @@ fn run(
     let mut now = first;
     let mut turns = u64::MAX;
     while turns > 0 {
-        now = turn(now, file, mem, cells, figures, buffer, out);
+        now = turn(rt, now, file, mem, cells, figures, buffer, out);
         if now.done {
             turns = 0;
         } else {
@@ -378,7 +407,7 @@ fn run(
 
 // The buffer for plan files takes one byte more than the longest, and that for cells one cell more than a plan can have tokens, so that
 // a longer file is seen to be longer.
-fn main() {
+fn main(rt: HostRuntime) {
     let mut file = [0u8; 32797];
     let mut mem = [0u16; 32768];
     let mut cells = [0u32; 4097];
@@ -387,6 +416,7 @@ fn main() {
     let mut out = io::large_buffer();
     let first = begin(&mut mem);
     let last = run(
+        &rt,
         first,
         &mut file,
         &mut mem,

@@ -10,6 +10,9 @@ mod stored;
 mod takings;
 mod tries;
 
+use std::fs::File;
+use std::os::fd::AsRawFd;
+
 // Every stored try. (The count of turns is there for the proof that the loop ends.)
 fn each(fd: i32, file: &[u8]) {
     let mut turns = u64::MAX;
@@ -22,22 +25,12 @@ fn each(fd: i32, file: &[u8]) {
     }
 }
 
-fn open(name: &[u8]) -> i32 {
-    let fd = os::open_read(name);
-    if fd < 0 {
-        os::fail(name);
-        return fd;
-    }
-    fd
-}
-
 // The run that is spoiled: examples/backwards.plan (3 tokens, 2 lines, 2 serial pipes) with 2 workers.
-fn main() {
+fn main(rt: HostRuntime) -> std::io::Result<()> {
     let mut file = [0u8; 64];
-    let plan = open(b"plan.bin");
-    let size = io::read_full(plan, &mut file);
-    libc::close(plan);
-    let fd = open(b"tries.txt");
-    each(fd, &file[..size]);
-    libc::close(fd);
+    let plan = File::open(&rt, "plan.bin")?;
+    let size = io::read_full(plan.as_raw_fd(), &mut file);
+    let tries = File::open(&rt, "tries.txt")?;
+    each(tries.as_raw_fd(), &file[..size]);
+    Ok(())
 }

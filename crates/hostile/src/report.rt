@@ -1,8 +1,10 @@
 // What is said of each try: the number that the engine answers (0 for an event), and what became of state and memory.
-use libc::STDOUT_FILENO;
 use opening::Opening;
 use state::State;
 use vocabulary::Answer;
+
+// Standard output's number.
+pub(crate) const STDOUT: i32 = 1;
 
 // A state with its memory.
 #[derive(Clone, Copy)]
@@ -36,29 +38,29 @@ pub fn opening_number(answer: Opening) -> u16 {
 
 pub(crate) fn say_same(same: bool) {
     if same {
-        io::write_all(STDOUT_FILENO, b" same");
+        io::write_all(STDOUT, b" same");
     } else {
-        io::write_all(STDOUT_FILENO, b" changed");
+        io::write_all(STDOUT, b" changed");
     }
 }
 
 // `n same|changed same|changed`, after some words: the number, then state and memory.
 pub fn say(words: &[u8], trial: Trial) {
-    io::write_all(STDOUT_FILENO, words);
-    io::print_decimal(STDOUT_FILENO, trial.number as u64);
+    io::write_all(STDOUT, words);
+    io::print_decimal(STDOUT, trial.number as u64);
     say_same(trial.state);
     say_same(trial.memory);
 }
 
 // What an offer answers, and whether its taking is the choice.
 pub fn say_offer(number: u16, alike: bool) {
-    io::write_all(STDOUT_FILENO, b"; offer ");
-    io::print_decimal(STDOUT_FILENO, number as u64);
+    io::write_all(STDOUT, b"; offer ");
+    io::print_decimal(STDOUT, number as u64);
     if alike {
-        io::write_all(STDOUT_FILENO, b" and its taking");
+        io::write_all(STDOUT, b" and its taking");
     }
 }
 
 pub fn end() {
-    io::write_all(STDOUT_FILENO, b"\n");
+    io::write_all(STDOUT, b"\n");
 }

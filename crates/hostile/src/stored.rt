@@ -1,5 +1,5 @@
 // Reading data/tries.txt. The tries are data since a name in code is an array that the check carries through its whole function.
-use libc::STDOUT_FILENO;
+use crate::report::STDOUT;
 
 // The next byte; 0 at the end.
 pub fn byte(fd: i32) -> u8 {
@@ -37,7 +37,7 @@ pub fn number(fd: i32) -> u16 {
 
 fn print(b: u8) {
     let one = [b; 1];
-    io::write_all(STDOUT_FILENO, &one);
+    io::write_all(STDOUT, &one);
 }
 
 // Prints the rest of the line.

@@ -2,9 +2,13 @@
 // choice.
 #![tactic(auto)]
 
-use libc::STDIN_FILENO;
 use printing::Sink;
 use session::Session;
+use std::fs::File;
+use std::os::fd::AsRawFd;
+
+// Standard input's number.
+const STDIN: i32 = 0;
 
 // What one reading of the input leads to: whether there was any, and the run.
 #[derive(Clone, Copy)]
@@ -16,7 +20,7 @@ struct Turn {
 // Reads some of the input and makes its choices. A reading is full unless the input ends, and its size is even: so it parts no choice.
 fn feed_some(session: Session, mem: &mut [u16], out: &mut [u8]) -> Turn {
     let mut input = io::large_buffer();
-    let got = io::read_full(STDIN_FILENO, &mut input);
+    let got = io::read_full(STDIN, &mut input);
     if got == 0 {
         return Turn {
             more: false,
@@ -66,7 +70,7 @@ fn serve(file: &[u8], workers: u8) {
 // The first byte of the input is W; an absent one reads as 0.
 fn run(file: &[u8]) {
     let mut first = [0u8; 1];
-    let got = io::read_full(STDIN_FILENO, &mut first);
+    let got = io::read_full(STDIN, &mut first);
     if got == 0 {
         serve(file, 0);
     } else {
@@ -76,14 +80,13 @@ fn run(file: &[u8]) {
 }
 
 // A missing plan.bin counts as empty. The buffer takes one byte more than the longest plan file, so that a longer file is seen to be longer.
-fn main() {
-    let fd = os::open_read(b"plan.bin");
-    if fd < 0 {
+fn main(rt: HostRuntime) {
+    let Ok(plan) = File::open(&rt, "plan.bin") else {
         run(b"");
         return;
-    }
+    };
     let mut file = [0u8; 32797];
-    let size = io::read_full(fd, &mut file);
-    libc::close(fd);
+    let size = io::read_full(plan.as_raw_fd(), &mut file);
+    drop(plan);
     run(&file[..size]);
 }

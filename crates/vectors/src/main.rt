@@ -6,6 +6,8 @@ mod runs;
 mod stored;
 
 use printing::Sink;
+use std::fs::File;
+use std::os::fd::AsRawFd;
 
 // What one stored plan or run leads to: whether there was one, and the output.
 #[derive(Clone, Copy)]
@@ -56,19 +58,15 @@ fn each(fd: i32, of_runs: bool, out: &mut [u8]) -> Sink {
     sink
 }
 
-fn print(name: &[u8], of_runs: bool) {
-    let fd = os::open_read(name);
-    if fd < 0 {
-        os::fail(name);
-        return;
-    }
+fn print(rt: &HostRuntime, name: &str, of_runs: bool) -> std::io::Result<()> {
+    let file = File::open(rt, name)?;
     let mut out = io::large_buffer();
-    let sink = each(fd, of_runs, &mut out);
+    let sink = each(file.as_raw_fd(), of_runs, &mut out);
     sink.flush(&out);
-    libc::close(fd);
+    Ok(())
 }
 
-fn main() {
-    print(b"plans.bin", false);
-    print(b"runs.bin", true);
+fn main(rt: HostRuntime) -> std::io::Result<()> {
+    print(&rt, "plans.bin", false)?;
+    print(&rt, "runs.bin", true)
 }
