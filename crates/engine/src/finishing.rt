@@ -1,7 +1,7 @@
 // A running line finishes.
 ghost use Rattle.std.specs.Prelude.{◌≡◌, ◌-◌, ◌<◌, ◌≤◌, eqb};
 ghost use Rattle.rules.specs.Lists.{if};
-ghost use Rattle.rules.specs.Choices.{next, moved as movedOf, finish as finishedBy};
+ghost use Rattle.rules.specs.Choices.{next, moved as moved_of, finish as finished_by};
 ghost use Rattle.tables.specs.Calls.{memory_source};
 ghost use Rattle.state.specs.Machines.{Ready};
 ghost use Rattle.engine.specs.Turns.{Fits, Follows, AnswersAs};
@@ -92,7 +92,7 @@ fn next_of(n: u16, i: u16) -> u16
 // What a line does that has finished a pipe: it waits at the next, without a worker, and holds no token at pipe 0.
 fn moved(slot: Slot, pipes: u16) -> Slot
     requires { slot.pipe.0 < pipes }
-    ensures { result ≡ movedOf pipes slot }
+    ensures { result ≡ moved_of pipes slot }
 {
     let after = slot.pipe.0 + 1;
     let token = slot.token;
@@ -175,7 +175,7 @@ pub(crate) fn finish(
 ) -> Turn
     requires { Ready f slot line.0 }
     ensures fits { Fits line.0 result }
-    ensures follows { Follows (finishedBy memory_source) f counters.now line.0 slot result mem.old mem.new }
+    ensures follows { Follows (finished_by memory_source) f counters.now line.0 slot result mem.old mem.new }
 {
     let fallen = both_falls(f, slot, counters, line.0);
     if !fallen.ok {
@@ -200,7 +200,7 @@ pub(crate) fn would_finish(
     line: Line,
 ) -> Answer
     requires { Ready f slot line.0 }
-    ensures { AnswersAs (finishedBy memory_source) f counters.now line.0 slot result mem.now }
+    ensures { AnswersAs (finished_by memory_source) f counters.now line.0 slot result mem.now }
 {
     let fallen = both_falls(f, slot, counters, line.0);
     if !fallen.ok {

@@ -8,7 +8,7 @@ mod turn;
 
 ghost use Rattle.std.specs.Prelude.{◌≡◌, List, ℕ};
 ghost use Rattle.vocabulary.specs.Refusals.{number_of};
-ghost use Rattle.rules.specs.Choices.{choose as chosenBy};
+ghost use Rattle.rules.specs.Choices.{choose as chosen_by};
 ghost use Rattle.rules.specs.Offers.{only_if};
 ghost use Rattle.tables.specs.Calls.{memory_source};
 ghost use Rattle.state.specs.Machines.{machine_of, whole, Ready};
@@ -99,7 +99,7 @@ fn turn_of(
     ensures fits { Fits line.0 result }
     ensures chooses { chosen_of (turned (whole f counters.now slots) line.0 result) mem.new ≡
         only_if (machine_of (whole f counters.now slots) mem.old) agreed (number_of other)
-        (chosenBy memory_source (machine_of (whole f counters.now slots) mem.old) worker.0 line.0) }
+        (chosen_by memory_source (machine_of (whole f counters.now slots) mem.old) worker.0 line.0) }
 {
     let rows = ranges::rows_sound(counters, &f.serial, f.pipes, f.lines);
     let rest = ranges::rest_sound(rows, f, mem);
@@ -134,7 +134,7 @@ pub fn choose_if(
     other: Refusal,
 ) -> Chosen
     ensures { chosen_of result mem.new ≡
-        only_if (machine_of s mem.old) agreed (number_of other) (chosenBy memory_source (machine_of s mem.old) worker.0 line.0) }
+        only_if (machine_of s mem.old) agreed (number_of other) (chosen_by memory_source (machine_of s mem.old) worker.0 line.0) }
 {
     let f = s.figures();
     let slots = s.slots();
@@ -177,7 +177,7 @@ pub fn choose_if(
 
 // A choice names a worker and a line: the line starts, finishes or stops, or the choice is refused.
 pub fn choose(s: State, mem: &mut [u16], worker: Worker, line: Line) -> Chosen
-    ensures { chosen_of result mem.new ≡ chosenBy memory_source (machine_of s mem.old) worker.0 line.0 }
+    ensures { chosen_of result mem.new ≡ chosen_by memory_source (machine_of s mem.old) worker.0 line.0 }
 {
     choose_if(s, mem, worker, line, true, Refusal::Spoiled)
 }

@@ -5,7 +5,7 @@ ghost use Rattle.vocabulary.specs.Refusals.{number_of};
 ghost use Rattle.vocabulary.specs.Events.{event_record, same_record};
 ghost use Rattle.rules.specs.Answers.{answer_of};
 ghost use Rattle.rules.specs.RunState.{slot_at};
-ghost use Rattle.rules.specs.Offers.{offer as offeredBy, shown as shownBy, take_record, take_offered};
+ghost use Rattle.rules.specs.Offers.{offer as offered_by, shown as shown_by, take_record, take_offered};
 ghost use Rattle.tables.specs.Calls.{memory_source};
 ghost use Rattle.state.specs.Machines.{machine_of, whole};
 ghost use Rattle.engine.specs.Machines.{chosen_of};
@@ -25,7 +25,7 @@ fn answer_of(
     worker: Worker,
     line: Line,
 ) -> Answer
-    ensures { answer_of result ≡ offeredBy memory_source (machine_of (whole f counters.now slots) mem.now) worker.0 line.0 }
+    ensures { answer_of result ≡ offered_by memory_source (machine_of (whole f counters.now slots) mem.now) worker.0 line.0 }
 {
     let rows = ranges::rows_sound(counters, &f.serial, f.pipes, f.lines);
     let rest = ranges::rest_sound(rows, f, mem);
@@ -39,7 +39,7 @@ fn answer_of(
 
 // What a choice would answer: its event, or why it is refused. Nothing is written.
 pub fn offer(s: State, mem: &[u16], worker: Worker, line: Line) -> Answer
-    ensures { answer_of result ≡ offeredBy memory_source (machine_of s mem.now) worker.0 line.0 }
+    ensures { answer_of result ≡ offered_by memory_source (machine_of s mem.now) worker.0 line.0 }
 {
     let f = s.figures();
     let slots = s.slots();
@@ -81,7 +81,7 @@ pub(crate) fn own_or(answer: Answer, other: Refusal) -> Refusal
 // What a line's slot and the tables say that it does next. Nothing else is looked at: a choice that is accepted gives just this.
 fn shown(f: Figures, slot: Slot, mem: &[u16], worker: Worker, line: Line) -> Answer
     ensures { (counters : List ℕ) (slots : Slots) → slot_at slots line.0 ≡ slot →
-        answer_of result ≡ shownBy memory_source (machine_of (whole f counters slots) mem.now) worker.0 line.0 }
+        answer_of result ≡ shown_by memory_source (machine_of (whole f counters slots) mem.now) worker.0 line.0 }
 {
     if slot.running {
         return finishing::finished(slot, line);

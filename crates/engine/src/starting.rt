@@ -1,6 +1,6 @@
 // A waiting line with counter 0 starts, or stops.
 ghost use Rattle.std.specs.Prelude.{◌≡◌, List, ℕ, ◌<◌};
-ghost use Rattle.rules.specs.Choices.{start as startedBy};
+ghost use Rattle.rules.specs.Choices.{start as started_by};
 ghost use Rattle.tables.specs.Calls.{memory_source};
 ghost use Rattle.state.specs.Machines.{Ready};
 ghost use Rattle.engine.specs.Turns.{Fits, Follows, AnswersAs};
@@ -131,7 +131,7 @@ fn start_first(f: Figures, slot: Slot, mem: &mut [u16], worker: Worker, line: Li
 pub(crate) fn start(f: Figures, slot: Slot, mem: &mut [u16], worker: Worker, line: Line) -> Turn
     requires { Ready f slot line.0 }
     ensures fits { Fits line.0 result }
-    ensures follows { (counters : List ℕ) → Follows (λ m l. startedBy memory_source m worker.0 l) f counters line.0 slot result mem.old mem.new }
+    ensures follows { (counters : List ℕ) → Follows (λ m l. started_by memory_source m worker.0 l) f counters line.0 slot result mem.old mem.new }
 {
     if slot.pipe.0 == 0 {
         return start_first(f, slot, mem, worker, line);
@@ -164,7 +164,7 @@ fn would_start_first(f: Figures, mem: &[u16], worker: Worker, line: Line) -> Ans
 
 // What a start would answer.
 pub(crate) fn would_start(f: Figures, slot: Slot, mem: &[u16], worker: Worker, line: Line) -> Answer
-    ensures { (counters : List ℕ) → AnswersAs (λ m l. startedBy memory_source m worker.0 l) f counters line.0 slot result mem.now }
+    ensures { (counters : List ℕ) → AnswersAs (λ m l. started_by memory_source m worker.0 l) f counters line.0 slot result mem.now }
 {
     if slot.pipe.0 == 0 {
         return would_start_first(f, mem, worker, line);

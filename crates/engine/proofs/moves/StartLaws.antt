@@ -182,10 +182,10 @@ module _ (f : Figures) (counters : List ℕ) (slots : Slots) (worker : Worker) (
         first_took {k} {t} e same room r-is = from (was_took mem given (sym told ∙ e)) (rw (r-is, left) (taken t k same room mem (taken_memory mem given)))
 
       -- at pipe 0, and later
-      pub start_first : {c : rules.Chosen tables.State} → slot.pipe.0 ≡ 0 → c ≡ start_first memory_source (machine_of s mem) worker.0 line.0 given →
+      pub start_first_lem : {c : rules.Chosen tables.State} → slot.pipe.0 ≡ 0 → c ≡ start_first memory_source (machine_of s mem) worker.0 line.0 given →
           c ≡ start memory_source (machine_of s mem) worker.0 line.0
       unfolding start machine_of
-      start_first e h = rw (at, eq-eqb slot.pipe.0 0 e) h
+      start_first_lem e h = rw (at, eq-eqb slot.pipe.0 0 e) h
 
       pub start_later_lem : {r : Turn} → (slot.pipe.0 ≡ 0 → ⊥) → r ≡ started_turn f worker line slot →
           chosen_of (turned s line.0 r) mem ≡ start memory_source (machine_of s mem) worker.0 line.0
@@ -248,7 +248,7 @@ module _ (f : Figures) (counters : List ℕ) (slots : Slots) (worker : Worker) (
   module _ (slot : Slot) (at : slot_at slots line.0 ≡ slot) where
     pub would_first : (r : Answer) → slot.pipe.0 ≡ 0 → answer_of r ≡ (start_first memory_source machine worker.0 line.0 (safe_take (f.tables, mem))).answer →
         answer_of r ≡ (start memory_source machine worker.0 line.0).answer
-    would_first r e h = h ∙ ap (λ c. c.answer) (start_first f counters slots worker line slot at mem e refl)
+    would_first r e h = h ∙ ap (λ c. c.answer) (start_first_lem f counters slots worker line slot at mem e refl)
 
     pub would_later : (slot.pipe.0 ≡ 0 → ⊥) →
         answer_of (Answer.Started (record { line = line; pipe = slot.pipe; token = slot.token; place = slot.place; worker = worker })) ≡ (start memory_source machine worker.0 line.0).answer
