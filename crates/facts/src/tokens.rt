@@ -63,6 +63,7 @@ fn numbers(facts: &[u16], token: u16) -> Numbers
 }
 
 // What the answer to a question about one number is.
+#[tactic(auto, using(tables::proofs::memory::FactsLaws::due_deferred, tables::proofs::memory::FactsLaws::due_past, tables::proofs::memory::FactsLaws::due_other, tables::proofs::memory::FactsLaws::left_past, tables::proofs::memory::FactsLaws::left_other))]
 fn holds(facts: &[u16], question: Question, number: u16) -> bool
     requires { length facts.now ≡ deferred_at }
     ensures { result ≡ holds_of facts.now question number }
