@@ -20,7 +20,7 @@ use Rattle.rules.proofs.rounding.Steps.{fits_parts}
 use Rattle.rules.proofs.rounding.Opening.{opens_with}
 use Rattle.fields.specs.Bytes.{Bytes}
 use Rattle.plan.specs.Plan.{Plan, Valid, encode}
-use Rattle.plan.specs.Reading.{Outcome, accepted, refused, read_of}
+use Rattle.plan.specs.Reading.{Outcome, accepted, read_of}
 use Rattle.plan.proofs.Theorem.{read_exactly}
 use Rattle.state.specs.Machines.{machine_of}
 use Rattle.loading.specs.Plans.{pipeline_of}
