@@ -1,6 +1,6 @@
 -- `records::check_record` meets its contract: each return answers the tests that led there.
 use Rattle.std.proofs.Common.{◌≡◌, ◌+◌, ◌-◌, ◌*◌, arith}
-use borrow.Author.Tests.{le-leb, lt-leb}
+use borrow.Author.Tests.{le-leb}
 use Rattle.fields.proofs.Fields.{field_inside}
 use Rattle.rules.proofs.lists.Tests.{tests}
 use Rattle.plan.specs.Records.{token_of, count_of, record_check}
@@ -43,15 +43,6 @@ returns-then-size-end c =
     let token : c.field_or_zero-token.result ≡ token_of c.args.part.now = field_inside _ _ (omega arith) c.field_or_zero-token.ensures in
     let count : c.field_or_zero-count.result ≡ count_of c.args.part.now = field_inside _ _ (omega arith) c.field_or_zero-count.ensures in
     rw (← token, ← count) (search tests depth 12)
-
-pub returns-then-total-count-gt8192 : goal.returns-then-total-count-gt8192
-returns-then-total-count-gt8192 c =
-    let token : c.field_or_zero-token.result ≡ token_of c.args.part.now = field_inside _ _ (omega arith) c.field_or_zero-token.ensures in
-    let count : c.field_or_zero-count.result ≡ count_of c.args.part.now = field_inside _ _ (omega arith) c.field_or_zero-count.ensures in
-    rw (
-      record_laid c.args.tokens c.args.floor c.args.total c.args.part.now (omega arith) (omega arith) (omega arith) (omega arith) (omega arith) (omega arith),
-      lt-leb (c.args.total + count_of c.args.part.now) 8192 (omega arith),
-    )
 
 pub returns : goal.returns
 returns c =
