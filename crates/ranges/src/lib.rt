@@ -76,6 +76,7 @@ pub fn rows_sound<'a>(
 }
 
 // All but the slots, once the counters and flags are known.
+#[tactic(auto, using(crate::proofs::in_range::RangeLaws::rows_fail, crate::proofs::in_range::RangeLaws::figures_fail, crate::proofs::in_range::RangeLaws::tables_left))]
 pub fn rest_sound(rows: bool, f: Figures, mem: &[u16]) -> bool
     ensures { (counters : List ℕ) → rows ≡ rows_sound f.pipes f.lines f.serial counters → result ≡ rest_sound f counters mem.now }
 {

@@ -29,7 +29,8 @@ fn all_still(lines: u16, slots: Slots, counters: &[u8; 512]) -> bool
         if running[l] {
             return false;
         }
-        if counters[row + pipe] == 0 {
+        let due = counters[row + pipe] == 0;
+        if due {
             return false;
         }
         row += COUNTERS_OF_LINE;

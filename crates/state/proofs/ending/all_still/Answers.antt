@@ -25,18 +25,18 @@ returns-then-running-l c =
     let within : c.loop-l.l < 32 = omega arith in
     every_fails _ _ c.loop-l.l (omega arith) (sym (search (tests, within) depth 12))
 
-pub returns-then-counters-row-eq0 : goal.returns-then-counters-row-eq0
+pub returns-then-due : goal.returns-then-due
 unfolding is_still is_early slot_at
-returns-then-counters-row-eq0 c =
+returns-then-due c =
     let within : c.loop-l.l < 32 = omega arith in
-    let none = rw c.loop-l.invariant.1 at c.if-counters-row-eq0.true in
+    let none = rw c.loop-l.invariant.1 at c.if-due.true in
     every_fails _ _ c.loop-l.l (omega arith) (sym (search (tests, within, none) depth 12))
 
 pub loop-l-preserved : goal.loop-l-preserved
 unfolding is_still is_early slot_at
 loop-l-preserved c =
     let within : c.loop-l.l < 32 = omega arith in
-    let above = rw c.loop-l.invariant.1 at c.if-counters-row-eq0.false in
+    let above = rw c.loop-l.invariant.1 at c.if-due.false in
     (omega arith, omega arith, every_more _ _ c.loop-l.invariant.2 (sym (search (tests, within, above) depth 12)))
 
 pub returns : goal.returns
