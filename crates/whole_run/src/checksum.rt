@@ -17,6 +17,7 @@ pub(crate) fn wide(x: u16) -> u64
 }
 
 // The numbers of a start or a finish as one.
+#[tactic(auto, unfolding(crate::specs::Checksums::step_value))]
 fn step_value(step: Step) -> u64
     ensures same { result ≡ step_value step.line.0 step.pipe.0 step.token.0 step.place.0 step.worker.0 }
     ensures small { result < 4504699424473088 }
@@ -30,6 +31,7 @@ fn step_value(step: Step) -> u64
 }
 
 // Those of a stop.
+#[tactic(auto, unfolding(crate::specs::Checksums::stop_value))]
 fn stop_value(stop: Stop) -> u64
     ensures same { result ≡ stop_value stop.line.0 stop.worker.0 }
     ensures small { result < 4504699424473087 }
@@ -40,6 +42,7 @@ fn stop_value(stop: Stop) -> u64
 }
 
 // An answer as one number.
+#[tactic(auto, using(crate::proofs::Summing::value_started, crate::proofs::Summing::value_finished, crate::proofs::Summing::value_stopped))]
 fn value(answer: Answer) -> u64
     ensures same { result ≡ value_of (answer_of answer) }
     ensures small { result < 4504699424473089 }
@@ -53,6 +56,7 @@ fn value(answer: Answer) -> u64
 }
 
 // The checksum with one more answer.
+#[tactic(auto, unfolding(crate::specs::Checksums::mixed))]
 pub fn add(sum: u64, answer: Answer) -> u64
     ensures { result ≡ mixed sum (value_of (answer_of answer)) }
 {

@@ -49,6 +49,7 @@ fn follow(state: State, choices: &[u8], mem: &mut [u16]) -> u64
 
 // Opens the plan of a file for so many workers and makes each two bytes a choice. Returns the checksum of the answers, or the
 // number of a refused opening.
+#[tactic(auto, using(crate::proofs::Summing::accepted_run))]
 pub fn pipeline_run(file: &[u8], workers: u16, choices: &[u8], mem: &mut [u16]) -> u64
     ensures answer { result ≡ (run_of file.now workers choices.now mem.old).0 }
     ensures memory { mem.new ≡ (run_of file.now workers choices.now mem.old).1 }
