@@ -11,7 +11,6 @@ use Rattle.vocabulary.specs.Events.{event_record}
 use Rattle.vocabulary.specs.declared.refusal.Refusal.{Refusal}
 use Rattle.vocabulary.specs.Refusals.{number_of}
 use Rattle.rules.specs.Answers.{answer_of}
-use Rattle.rules.specs.Choices as rules
 use Rattle.rules.specs.Choices.{choose}
 use Rattle.rules.specs.Offers.{only_if, take_record}
 use Rattle.rules.specs.Rounding.{Lending, RoundedChosen, rounding_sound, choose_rounded}

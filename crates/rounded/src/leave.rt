@@ -19,6 +19,7 @@ pub struct Leave {
 
 impl Leave {
     // What an offer comes to: a refusal of its own first, then that of rounding.
+    #[tactic(auto, using(crate::proofs::LeaveLaws::told_given, crate::proofs::LeaveLaws::told_own, crate::proofs::LeaveLaws::told_other), unfolding(rules::specs::Answers::answer_of))]
     pub(crate) fn answer(self, own: Answer) -> Answer
         ensures { answer_of result ≡ told_by self (answer_of own) }
     {
@@ -36,6 +37,7 @@ impl Leave {
 }
 
 // How many cells and figures are lent: none without rounding.
+#[tactic(auto, using(crate::proofs::LeaveLaws::count_none, crate::proofs::LeaveLaws::count_all))]
 fn lent_count(rounding: Rounding, tokens: u16) -> u16
     ensures { result ≡ lent_count tokens (rounding_of rounding) }
 {
@@ -46,6 +48,7 @@ fn lent_count(rounding: Rounding, tokens: u16) -> u16
 }
 
 // Whether there are as many cells and figures as there should be, and no cell is too large.
+#[tactic(auto, unfolding(crate::specs::Leaves::fits_by))]
 pub(crate) fn fits(rounding: Rounding, tokens: u16, cells: &[u32], figures: usize) -> bool
     ensures { result ≡ fits_by tokens (rounding_of rounding) cells.now figures }
 {
@@ -54,6 +57,7 @@ pub(crate) fn fits(rounding: Rounding, tokens: u16, cells: &[u32], figures: usiz
 }
 
 // Whether T stays within its limit if the line acts. (A row is copied before it is indexed, which saves a copy of the state.)
+#[tactic(auto, using(crate::proofs::LeaveLaws::passer_runs, crate::proofs::LeaveLaws::passer_waits, crate::proofs::LeaveLaws::passer_out), unfolding(rules::specs::RunState::slot_at))]
 pub(crate) fn stays(rounding: Rounding, state: State, cells: &[u32], line: Line) -> bool
     ensures { result ≡ leb (sum_after (rounding_of rounding) cells.now (passer_at (rounding_of rounding) (slots_of state) line.0)) sum_most }
 {
@@ -72,6 +76,7 @@ pub(crate) fn stays(rounding: Rounding, state: State, cells: &[u32], line: Line)
 }
 
 // What both come to.
+#[tactic(auto, unfolding(crate::specs::Leaves::leave_of))]
 pub(crate) fn leave_of(fits: bool, stays: bool) -> Leave
     ensures { result ≡ leave_of fits stays }
 {

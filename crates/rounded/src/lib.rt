@@ -28,6 +28,7 @@ pub struct Chosen {
 }
 
 // A choice that was made or refused, with what its answer does to T and the figures.
+#[tactic(auto, unfolding(crate::specs::Runs::chosen_of, engine::specs::Machines::chosen_of, rounding::specs::Runs::run_of))]
 fn settled(rounding: Rounding, chosen: engine::Chosen, cells: &[u32], figures: &mut [u32]) -> Chosen
     ensures { (m : List ℕ) → chosen_of result m figures.new ≡ joined (chosenBy chosen m) (rounding_of rounding)
         (settle_by (rounding_of rounding) (answer_of chosen.answer) cells.now figures.old) }
@@ -60,6 +61,7 @@ fn leave_for(run: Run, cells: &[u32], figures: usize, line: Line) -> Leave
 }
 
 // A choice of a run with its rounding, with the cells and figures that are lent to it: T and a token's figure change where its cell passes.
+#[tactic(auto, using(crate::proofs::Calls::spoiled_choice, crate::proofs::Calls::chosen))]
 pub fn choose_rounded(
     run: Run,
     mem: &mut [u16],
@@ -88,6 +90,7 @@ pub fn choose_rounded(
 }
 
 // What such a choice would answer: its event, or why it is refused. Nothing is written.
+#[tactic(auto, using(crate::proofs::Calls::offered))]
 pub fn offer_rounded(
     run: Run,
     mem: &[u16],
@@ -112,6 +115,7 @@ pub fn offer_rounded(
 
 // The choice that a record names, made only if its event is the record's, and refused with `other` where it is another; what rounding has
 // against it comes before that.
+#[tactic(auto, using(crate::proofs::Calls::spoiled_taking, crate::proofs::Calls::taken, crate::proofs::Calls::turned_down))]
 fn take_record(
     run: Run,
     mem: &mut [u16],
