@@ -33,6 +33,7 @@ pub struct Progress {
 }
 
 // Opens the run of a journal.
+#[tactic(auto, unfolding(crate::specs::Marking::marked_of, crate::specs::Marking::begun))]
 pub fn begin(file: &[u8], workers: u16, mem: &mut [u16]) -> Progress
     ensures { marked_of result mem.new ≡ begun file.now workers mem.old }
 {
@@ -67,6 +68,7 @@ impl Progress {
 }
 
 // What marking says after the event with this index, by what its choice answers.
+#[tactic(auto, unfolding(rules::specs::Answers::answer_of))]
 fn marking_after(i: usize, answer: Answer) -> Marking
     ensures { verdict_of result ≡ unless_refused (answer_of answer) (Wrong i) CorrectSoFar }
 {
@@ -79,6 +81,7 @@ fn marking_after(i: usize, answer: Answer) -> Marking
 }
 
 // The event with this index, if those before it are right: it is made if the choice of its worker and line gives it.
+#[tactic(auto, using(crate::proofs::StepLaws::event_tried, crate::proofs::StepLaws::event_passed))]
 pub fn mark_event(p: Progress, mem: &mut [u16], i: usize, event: EventRecord) -> Progress
     ensures { marked_of result mem.new ≡ mark_more memory_source (marked_of p mem.old) i (event ∷ []) }
 {
