@@ -12,6 +12,7 @@ use vocabulary::EventRecord;
 const RECORD: usize = 11;
 
 // The record that starts at a place.
+#[tactic(auto, using(crate::proofs::Steps::record_of))]
 fn record_at(journal: &[u8], at: usize) -> EventRecord
     requires { at + 11 ≤ length journal.now }
     ensures { result ≡ record_in (drop at journal.now) }
