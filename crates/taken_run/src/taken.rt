@@ -16,6 +16,7 @@ enum Taking {
     Nothing,
 }
 
+#[tactic(auto, unfolding(crate::specs::Takings::taking_of))]
 fn taking_of(answer: Answer) -> Taking
     ensures { result ≡ taking_of answer }
 {
