@@ -17,6 +17,7 @@ pub(crate) fn at_most(n: usize, most: usize) -> usize
 }
 
 // `choose WORKER LINE`: the answer of the choice.
+#[tactic(auto, using(crate::proofs::Laws::lent_size))]
 pub(crate) fn choose_line(
     talk: Talk,
     choice: Choice,
@@ -45,6 +46,7 @@ pub(crate) fn choose_line(
 }
 
 // `offer WORKER LINE`: the answer that the choice would get.
+#[tactic(auto, using(crate::proofs::Laws::offered_is, crate::proofs::Laws::lent_size))]
 pub(crate) fn offer_line(
     talk: Talk,
     choice: Choice,
@@ -71,6 +73,7 @@ pub(crate) fn offer_line(
 }
 
 // `take`: the answer of the choice that gives the event, or 19.
+#[tactic(auto, using(crate::proofs::Laws::lent_size))]
 pub(crate) fn take_event(
     talk: Talk,
     event: Event,

@@ -68,6 +68,7 @@ pub fn answer_mark(
 }
 
 // `open W`: `A`, or `R n`. The run is without rounding, and nothing is lent to it.
+#[tactic(auto, using(crate::proofs::Laws::opened_is))]
 fn open_run(talk: Talk, file: &[u8], workers: u16, mem: &mut [u16], out: &mut [u8]) -> Talk
     ensures { (cells figures : List ℕ) → held_of result mem.new cells figures out.new ≡
         openedIn file.now workers (held_of talk mem.old cells figures out.old) }
@@ -85,6 +86,7 @@ fn open_run(talk: Talk, file: &[u8], workers: u16, mem: &mut [u16], out: &mut [u
 }
 
 // How many cells are lent after an opening.
+#[tactic(auto, using(crate::proofs::Laws::lent_all, crate::proofs::Laws::lent_none))]
 fn lent_after(answer: Opening, many: usize) -> usize
     ensures { result ≡ if (is_accepted answer) many 0 }
 {
@@ -95,6 +97,7 @@ fn lent_after(answer: Opening, many: usize) -> usize
 }
 
 // `open W PIPE BASE PATH`, once so many cells are read, with as many figures: `A`, or `R n`.
+#[tactic(auto, using(crate::proofs::Laws::lent_size))]
 pub fn answer_open_rounded(
     talk: Talk,
     file: &[u8],
@@ -134,6 +137,7 @@ pub fn answer_open_rounded(
 }
 
 // A line as it stands; the run stays.
+#[tactic(auto, using(crate::proofs::Laws::told_is))]
 fn tell(talk: Talk, text: &[u8], out: &mut [u8]) -> Talk
     ensures { (m cells figures : List ℕ) → held_of result m cells figures out.new ≡
         told (text.now ∷ []) (held_of talk m cells figures out.old) }
@@ -148,6 +152,7 @@ fn tell(talk: Talk, text: &[u8], out: &mut [u8]) -> Talk
 }
 
 // `figures`: `C f f ..`, the lent figures.
+#[tactic(auto, using(crate::proofs::Laws::figures_told))]
 fn tell_figures(talk: Talk, figures: &[u32], out: &mut [u8]) -> Talk
     ensures { (m cells : List ℕ) → held_of result m cells figures.now out.new ≡
         figures_in (held_of talk m cells figures.now out.old) }
@@ -163,6 +168,7 @@ fn tell_figures(talk: Talk, figures: &[u32], out: &mut [u8]) -> Talk
 }
 
 // `sum`: `T n`.
+#[tactic(auto, using(crate::proofs::Laws::sum_told))]
 fn tell_sum(talk: Talk, out: &mut [u8]) -> Talk
     ensures { (m cells figures : List ℕ) → held_of result m cells figures out.new ≡
         sumIn (held_of talk m cells figures out.old) }
@@ -178,6 +184,7 @@ fn tell_sum(talk: Talk, out: &mut [u8]) -> Talk
 }
 
 // `ended`: `E` or `O`.
+#[tactic(auto, using(crate::proofs::Laws::ended_is, crate::proofs::Laws::not_ended_is))]
 fn tell_end(talk: Talk, out: &mut [u8]) -> Talk
     ensures { (m cells figures : List ℕ) → held_of result m cells figures out.new ≡
         endedIn (held_of talk m cells figures out.old) }

@@ -12,6 +12,7 @@ use printing::Sink;
 use vocabulary::Refusal;
 
 // `P p l n r e`: pipes, lines, tokens, records, edition.
+#[tactic(auto, unfolding(crate::specs::Lines::header_texts))]
 fn put_header(sink: Sink, out: &mut [u8], h: Header) -> Sink
     ensures { (result, out.new) ≡ put_each (sink, out.old) (header_texts h) }
 {
@@ -26,6 +27,7 @@ fn put_header(sink: Sink, out: &mut [u8], h: Header) -> Sink
 }
 
 // Of a plan that was read its header, or `R n`.
+#[tactic(auto, unfolding(crate::specs::Lines::reading_texts))]
 pub(crate) fn put_reading(sink: Sink, out: &mut [u8], reading: Reading) -> Sink
     ensures { (result, out.new) ≡ put_each (sink, out.old) (reading_texts reading) }
 {
@@ -36,6 +38,7 @@ pub(crate) fn put_reading(sink: Sink, out: &mut [u8], reading: Reading) -> Sink
 }
 
 // `A` or `R n`
+#[tactic(auto, using(crate::proofs::Laws::opens), unfolding(crate::specs::Lines::opening_texts))]
 pub(crate) fn put_opening(sink: Sink, out: &mut [u8], answer: Opening) -> Sink
     ensures { (result, out.new) ≡ put_each (sink, out.old) (opening_texts answer) }
 {
@@ -46,6 +49,7 @@ pub(crate) fn put_opening(sink: Sink, out: &mut [u8], answer: Opening) -> Sink
 }
 
 // `wrong i n`: the event's index, and why it is refused.
+#[tactic(auto, using(crate::proofs::Laws::wrong_put))]
 fn put_wrong(sink: Sink, out: &mut [u8], i: usize, why: Refusal) -> Sink
     ensures { (result, out.new) ≡ put_each (sink, out.old) (wrong_texts i (number_of why)) }
 {
@@ -55,6 +59,7 @@ fn put_wrong(sink: Sink, out: &mut [u8], i: usize, why: Refusal) -> Sink
 }
 
 // `complete`, `correct so far`, `wrong i n` or `R n`
+#[tactic(auto, using(crate::proofs::Laws::marks_complete, crate::proofs::Laws::marks_so_far), unfolding(crate::specs::Lines::marking_texts))]
 pub(crate) fn put_marking(sink: Sink, out: &mut [u8], marking: Marking) -> Sink
     ensures { (result, out.new) ≡ put_each (sink, out.old) (marking_texts (verdict_of marking)) }
 {

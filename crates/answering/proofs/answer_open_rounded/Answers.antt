@@ -1,0 +1,8 @@
+use Rattle.answering.proofs.Laws.{rounded_is}
+use Rattle.answering.proofs.answer_open_rounded.Goals as goal
+
+pub returns : goal.returns
+returns c =
+    let opened = c.open_rounded-opened.ensures in
+    rounded_is _ c.args.asked c.args.many _ c.at_most-m.ensures c.at_most-n.ensures _ opened.answer opened.memory
+    opened.left c.lent_after-lent.ensures c.put_opening.ensures
