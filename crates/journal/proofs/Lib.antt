@@ -1,4 +1,2 @@
--- A slice that is lent again for a call;
-pub mod Relending
--- and the walk over a journal, turn by turn.
+-- The walk over a journal, turn by turn.
 pub mod WalkLaws
