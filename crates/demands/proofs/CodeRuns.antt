@@ -16,7 +16,7 @@ use Rattle.vocabulary.specs.declared.refusal.Refusal.{Refusal}
 use Rattle.rules.proofs.choices.Accepting.{unspoiled_sound}
 use Rattle.fields.specs.Bytes.{Bytes}
 use Rattle.plan.specs.Plan.{Plan, Valid, encode}
-use Rattle.plan.specs.Reading.{refused, read_of}
+use Rattle.plan.specs.Reading.{read_of}
 use Rattle.plan.proofs.Theorem.{one_plan}
 use Rattle.tables.specs.State as tables
 use Rattle.tables.specs.Calls.{memory_source}
