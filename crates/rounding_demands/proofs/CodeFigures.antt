@@ -9,7 +9,6 @@ use Rattle.vocabulary.specs.declared.answer.Answer.{Answer}
 use Rattle.rules.specs.Lists.{has, Every}
 use Rattle.rules.specs.RunState.{Machine}
 use Rattle.rules.specs.Ranges.{sound}
-use Rattle.rules.specs.Choices as rules
 use Rattle.rules.specs.Choices.{Choice, Refused, choose_by, answers, ended, opened}
 use Rattle.rules.specs.Answers.{answer_of}
 use Rattle.rules.specs.WholeRuns.{Accepted}
@@ -34,7 +33,6 @@ use Rattle.state.specs.Machines.{machine_of}
 use Rattle.state.specs.Ending.{ended_of}
 use Rattle.state.proofs.in_range.SoundLaws.{ended_is as ended_as_rules}
 use Rattle.opening.specs.Opened.{state_of}
-use Rattle.rounding.specs.declared.Rounding.{Rounding}
 use Rattle.rounding.specs.declared.run.Run.{Run}
 use Rattle.rounding.specs.Roundings.{rounding_of}
 use Rattle.rounding.specs.Runs.{run_of}

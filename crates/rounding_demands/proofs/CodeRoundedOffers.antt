@@ -10,7 +10,6 @@ use Rattle.vocabulary.specs.declared.refusal.Refusal.{Refusal}
 use Rattle.rules.specs.Choices.{Refused}
 use Rattle.rules.specs.Answers.{answer_of}
 use Rattle.rules.specs.Offers.{is_refused, event_of}
-use Rattle.rules.specs.Rounding as paper
 use Rattle.rules.specs.Rounding.{Lending, RoundedChosen, refuse_with, choose_rounded}
 use Rattle.rules.specs.RoundedOffers.{named_with, take_rounded}
 use Rattle.rules.proofs.choices.Offered.{not_refused}
