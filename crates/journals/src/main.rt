@@ -14,8 +14,7 @@ ghost use Rattle.marking.specs.Marking.{verdict_of, walked, mark_of, left_memory
 use marking::Marking;
 use vocabulary::EventRecord;
 
-// A journal of 13 records, marked. The borrow checker covers no function with a slice of structs: this one is walked by hand, and all
-// others call it.
+// A journal of 13 records, marked. All others call it.
 fn mark_records(file: &[u8], workers: u16, records: [EventRecord; 13], mem: &mut [u16]) -> Marking
     ensures { (verdict_of result ≡ mark_of file.now workers records mem.old)
         × (mem.new ≡ left_memory (walked file.now workers records mem.old)) }
