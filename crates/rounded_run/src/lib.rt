@@ -13,6 +13,7 @@ use rounding::Run;
 use vocabulary::{Answer, Line, Pipe, Refusal, Worker};
 
 // Opens a run with rounding; with base 0, one without.
+#[tactic(auto, using(crate::proofs::Making::plain_opening, crate::proofs::Making::rounded_opening))]
 fn opened(
     file: &[u8],
     workers: u16,
@@ -70,6 +71,7 @@ fn follow(run: Run, choices: &[u8], mem: &mut [u16], cells: &[u32], figures: &mu
 
 // Opens the plan of a file for so many workers, with this pipe and base and these cells, or without rounding if the base is 0, and makes
 // each two bytes a choice. Returns the checksum of the answers, or the number of a refused opening.
+#[tactic(auto, using(crate::proofs::Making::accepted_run))]
 pub fn pipeline_run_rounded(
     file: &[u8],
     workers: u16,
