@@ -39,6 +39,7 @@ fn for_program(command: Command) -> bool
 }
 
 // Answers each whole line of a text, up to the first that is the program's own.
+#[tactic(auto, using(words::proofs::Walks::rest_is, crate::proofs::Walk::next_within, crate::proofs::Walk::served_end, crate::proofs::Walk::served_rest, crate::proofs::Walk::served_own, crate::proofs::Walk::served_turn))]
 pub fn serve(
     talk: Talk,
     text: &[u8],
@@ -73,6 +74,7 @@ pub fn serve(
 }
 
 // Moves the bytes from one place up to another to the front of a buffer, and returns how many they are; none where they are not within it.
+#[tactic(auto, using(crate::proofs::Moving::moved_past, crate::proofs::Moving::moved_none, crate::proofs::Moving::moved_more))]
 pub fn keep_rest(buffer: &mut [u8], from: usize, to: usize) -> usize
     ensures within { result ≤ length buffer.new }
     ensures moves { (result, buffer.new) ≡ moved_up from to buffer.old }
