@@ -22,7 +22,7 @@ use Rattle.serving.specs.Serving.{for_program}
 use Rattle.serving.proofs.Cutting.{served_own_line}
 use Rattle.console.specs.declared.input.Input.{Input}
 use Rattle.console.specs.declared.Console.{Console}
-use Rattle.console.specs.Inputs.{Within, Arrived, more, pending}
+use Rattle.console.specs.Inputs.{Within, Arrived, pending}
 use Rattle.console.specs.Consoles.{console_from, refused_long}
 use Rattle.console.specs.Turns.{Lent, lent_of, Rounded, Whole, whole, holding, served_of, left_by, Answered, Obeyed, Waited, reads, Turned, next_line, no_line}
 use Rattle.console.proofs.Inputs.{pending_length, pending_from}
