@@ -42,7 +42,7 @@ use Rattle.commands.specs.declared.Choice.{Choice}
 use Rattle.commands.specs.declared.RoundingAt.{RoundingAt}
 use Rattle.commands.specs.declared.Command.{Command}
 use Rattle.answering.specs.Lines.{header_texts, reading_texts, opening_texts, wrong_texts, marking_texts}
-use Rattle.answering.specs.Answers.{Held, lentCells, lentFigures, withOutput, told, openedIn, openedRoundedIn, afterOpening, after, chosenIn, offeredIn, takenIn, figures_in, sumIn, endedIn, answered}
+use Rattle.answering.specs.Answers.{Held, lent_cells, lent_figures, with_output, told, opened_in, opened_rounded_in, after_opening, after, chosen_in, offered_in, taken_in, figures_in, sum_in, ended_in, answered}
 
 module _ (o : Output) {r : Output} where
   -- a plan file
@@ -119,10 +119,10 @@ left_by c n chosen memory part r = record {
 
 -- the console after a choice, made with the first cells and figures
 module _ (c : Held) {m n : ℕ} (m-is : m ≡ min c.lent (length c.cells)) (n-is : n ≡ min c.lent (length c.figures)) where
-  with_cells : take m c.cells ≡ lentCells c
+  with_cells : take m c.cells ≡ lent_cells c
   with_cells = first_lent c.cells c.lent m-is
 
-  with_figures : take n c.figures ≡ lentFigures c
+  with_figures : take n c.figures ≡ lent_figures c
   with_figures = first_lent c.figures c.lent n-is
 
   module _ (chosen : Chosen) {memory : List ℕ} (part : List ℕ) {r : Output} (r-is : r ≡ put_each c.output (answer_texts (answer_of chosen.answer))) where
@@ -131,28 +131,28 @@ module _ (c : Held) {m n : ℕ} (m-is : m ≡ min c.lent (length c.cells)) (n-is
     after_is e = rw (r-is, rest_kept c.figures c.lent n-is) (ap (λ made. after made c) e)
 
     pub chosen_is : (choice : Choice) → chosen_of chosen memory part ≡ paper.choose_rounded memory_source (run_of c.run c.memory)
-        (lent choice.worker.0 choice.line.0 (take m c.cells) (take n c.figures)) → left_by c n chosen memory part r ≡ chosenIn choice c
-    unfolding chosenIn
+        (lent choice.worker.0 choice.line.0 (take m c.cells) (take n c.figures)) → left_by c n chosen memory part r ≡ chosen_in choice c
+    unfolding chosen_in
     chosen_is choice e = after_is (rw (with_cells, with_figures) at e)
 
     pub taken_is : (event : Event) → chosen_of chosen memory part ≡ take_rounded memory_source (run_of c.run c.memory) event
-        (take m c.cells) (take n c.figures) → left_by c n chosen memory part r ≡ takenIn event c
-    unfolding takenIn
+        (take m c.cells) (take n c.figures) → left_by c n chosen memory part r ≡ taken_in event c
+    unfolding taken_in
     taken_is event e = after_is (rw (with_cells, with_figures) at e)
 
   -- an offer changes nothing
   pub offered_is : (choice : Choice) {r : Output} {a : rules.Answer} → a ≡ (paper.choose_rounded memory_source (run_of c.run c.memory)
       (lent choice.worker.0 choice.line.0 (take m c.cells) (take n c.figures))).answer →
-      r ≡ put_each c.output (answer_texts a) → withOutput c r ≡ offeredIn choice c
-  unfolding offeredIn told
-  offered_is choice e r-is = rw (← with_cells, ← with_figures) (ap (withOutput c) (r-is ∙ ap (λ a. put_each c.output (answer_texts a)) e))
+      r ≡ put_each c.output (answer_texts a) → with_output c r ≡ offered_in choice c
+  unfolding offered_in told
+  offered_is choice e r-is = rw (← with_cells, ← with_figures) (ap (with_output c) (r-is ∙ ap (λ a. put_each c.output (answer_texts a)) e))
 
 module _ (file : List ℕ) (c : Held) where
   -- the console after an opening
   pub opened_is : (workers : ℕ) {opened : Opened} {run : Run} {memory : List ℕ} {r : Output} → opened ≡ (open_of file workers c.memory).0 →
       run ≡ without_rounding opened.state → memory ≡ (open_of file workers c.memory).1 → r ≡ put_each c.output (opening_texts opened.answer) →
-      ◌≡◌ {A = Held} (record { run = run; lent = 0; memory = memory; cells = c.cells; figures = c.figures; output = r }) (openedIn file workers c)
-  unfolding openedIn
+      ◌≡◌ {A = Held} (record { run = run; lent = 0; memory = memory; cells = c.cells; figures = c.figures; output = r }) (opened_in file workers c)
+  unfolding opened_in
   opened_is workers e run_is memory_is r-is = rw (run_is, r-is, e, memory_is)
 
 -- and after one with rounding, made with the first cells and figures
@@ -171,8 +171,8 @@ module _ (file : List ℕ) (asked : RoundingAt) (many : ℕ) (c : Held) {m n : �
         cells = c.cells;
         figures = part ++ drop n c.figures;
         output = r;
-      }) (openedRoundedIn file asked many c)
-  unfolding openedRoundedIn afterOpening
+      }) (opened_rounded_in file asked many c)
+  unfolding opened_rounded_in after_opening
   rounded_is part e memory_is part-is count_is r-is =
       rw (r-is, count_is, e, memory_is, part-is, ← first_lent c.cells many m-is, ← first_lent c.figures many n-is, rest_kept c.figures many n-is)
 
@@ -191,26 +191,26 @@ answers file c e d-is = rw e d-is
 
 module _ (c : Held) where
   -- the console after a line as it stands
-  pub told_is : {r : Output} (text : List ℕ) → r ≡ put_of c.output text → withOutput c r ≡ told (text ∷ []) c
+  pub told_is : {r : Output} (text : List ℕ) → r ≡ put_of c.output text → with_output c r ≡ told (text ∷ []) c
   unfolding told
-  told_is text r-is = ap (withOutput c) (put_one c.output text r-is)
+  told_is text r-is = ap (with_output c) (put_one c.output text r-is)
 
   -- the lent figures
   pub figures_told : {n : ℕ} → n ≡ min c.lent (length c.figures) → {r : Output} →
-      r ≡ put_each c.output (line_texts (67 ∷ []) (take n c.figures)) → withOutput c r ≡ figures_in c
+      r ≡ put_each c.output (line_texts (67 ∷ []) (take n c.figures)) → with_output c r ≡ figures_in c
   unfolding figures_in told
-  figures_told n-is r-is = ap (withOutput c) (r-is ∙ ap (λ l. put_each c.output (line_texts (67 ∷ []) l)) (first_lent c.figures c.lent n-is))
+  figures_told n-is r-is = ap (with_output c) (r-is ∙ ap (λ l. put_each c.output (line_texts (67 ∷ []) l)) (first_lent c.figures c.lent n-is))
 
   -- the run's T
-  pub sum_told : {r : Output} → r ≡ put_each c.output (line_texts (84 ∷ []) (c.run.rounding.sum ∷ [])) → withOutput c r ≡ sumIn c
-  unfolding sumIn told
-  sum_told r-is = ap (withOutput c) r-is
+  pub sum_told : {r : Output} → r ≡ put_each c.output (line_texts (84 ∷ []) (c.run.rounding.sum ∷ [])) → with_output c r ≡ sum_in c
+  unfolding sum_in told
+  sum_told r-is = ap (with_output c) r-is
 
   -- whether the run has ended
-  pub ended_is : {d : Held} {b : Bool} → b ≡ ended_of c.run.state → b ≡ true → d ≡ told ((69 ∷ 10 ∷ []) ∷ []) c → d ≡ endedIn c
-  unfolding endedIn closing_texts
+  pub ended_is : {d : Held} {b : Bool} → b ≡ ended_of c.run.state → b ≡ true → d ≡ told ((69 ∷ 10 ∷ []) ∷ []) c → d ≡ ended_in c
+  unfolding ended_in closing_texts
   ended_is b_is t d-is = rw (sym b_is ∙ t) d-is
 
-  pub not_ended_is : {d : Held} {b : Bool} → b ≡ ended_of c.run.state → b ≡ false → d ≡ told ((79 ∷ 10 ∷ []) ∷ []) c → d ≡ endedIn c
-  unfolding endedIn closing_texts
+  pub not_ended_is : {d : Held} {b : Bool} → b ≡ ended_of c.run.state → b ≡ false → d ≡ told ((79 ∷ 10 ∷ []) ∷ []) c → d ≡ ended_in c
+  unfolding ended_in closing_texts
   not_ended_is b_is t d-is = rw (sym b_is ∙ t) d-is

@@ -43,15 +43,15 @@ held_of t memory cells figures out = record {
 }
 
 -- the cells and the figures that are lent: the first ones, as many as there are
-abbrev pub lentCells : Held → List ℕ
-lentCells c = take c.lent c.cells
+abbrev pub lent_cells : Held → List ℕ
+lent_cells c = take c.lent c.cells
 
-abbrev pub lentFigures : Held → List ℕ
-lentFigures c = take c.lent c.figures
+abbrev pub lent_figures : Held → List ℕ
+lent_figures c = take c.lent c.figures
 
 -- another output, and nothing else
-abbrev pub withOutput : Held → Output → Held
-withOutput c o = record {
+abbrev pub with_output : Held → Output → Held
+with_output c o = record {
   run = c.run;
   lent = c.lent;
   memory = c.memory;
@@ -62,12 +62,12 @@ withOutput c o = record {
 
 -- only some texts are put
 unfoldable pub told : List (List ℕ) → Held → Held
-told texts c = withOutput c (put_each c.output texts)
+told texts c = with_output c (put_each c.output texts)
 
 -- `open W`: the run that is opened, without rounding, and `A`; where it is refused, a state of zeros, the lent numbers as before, and
 -- `R n`. No cells or figures are lent
-unfoldable pub openedIn : List ℕ → ℕ → Held → Held
-openedIn file workers c =
+unfoldable pub opened_in : List ℕ → ℕ → Held → Held
+opened_in file workers c =
     record {
       run = without_rounding (open_of file workers c.memory).0.state;
       lent = 0;
@@ -79,8 +79,8 @@ openedIn file workers c =
 
 -- what an opening with rounding leaves and says: as many cells and figures are lent with a run that is opened, and none where it is
 -- refused; the figures beyond stay as they are
-unfoldable pub afterOpening : ℕ → RoundedOpening → Held → Held
-afterOpening many opened c =
+unfoldable pub after_opening : ℕ → RoundedOpening → Held → Held
+after_opening many opened c =
     record {
       run = opened.returned.run;
       lent = if (is_accepted opened.returned.answer) many 0;
@@ -91,9 +91,9 @@ afterOpening many opened c =
     }
 
 -- `open W PIPE BASE PATH`, where the path's cells are so many, the first ones: with as many figures, the first ones too
-unfoldable pub openedRoundedIn : List ℕ → RoundingAt → ℕ → Held → Held
-openedRoundedIn file asked many c =
-    afterOpening many
+unfoldable pub opened_rounded_in : List ℕ → RoundingAt → ℕ → Held → Held
+opened_rounded_in file asked many c =
+    after_opening many
     (open_rounded_of file asked.workers asked.pipe.0 asked.base c.memory (take many c.cells) (take many c.figures)) c
 
 -- what a choice leaves and says; the figures that are not lent stay as they are
@@ -110,43 +110,43 @@ after chosen c =
 
 -- a choice with what is lent to it
 abbrev pub lending : Choice → Held → paper.Lending
-lending choice c = lent choice.worker.0 choice.line.0 (lentCells c) (lentFigures c)
+lending choice c = lent choice.worker.0 choice.line.0 (lent_cells c) (lent_figures c)
 
 -- `choose WORKER LINE`: the paper's choice, and its line as the scheduler prints it
-unfoldable pub chosenIn : Choice → Held → Held
-chosenIn choice c = after (paper.choose_rounded memory_source (run_of c.run c.memory) (lending choice c)) c
+unfoldable pub chosen_in : Choice → Held → Held
+chosen_in choice c = after (paper.choose_rounded memory_source (run_of c.run c.memory) (lending choice c)) c
 
 -- `offer WORKER LINE`: the line that the choice would get, and nothing else
-unfoldable pub offeredIn : Choice → Held → Held
-offeredIn choice c = told (answer_texts (offer_rounded memory_source (run_of c.run c.memory) (lending choice c))) c
+unfoldable pub offered_in : Choice → Held → Held
+offered_in choice c = told (answer_texts (offer_rounded memory_source (run_of c.run c.memory) (lending choice c))) c
 
 -- `take S l p t k w`, `take F l p t k w`, `take X l w`: the paper's taking of an offered event
-unfoldable pub takenIn : Event → Held → Held
-takenIn event c = after (take_rounded memory_source (run_of c.run c.memory) event (lentCells c) (lentFigures c)) c
+unfoldable pub taken_in : Event → Held → Held
+taken_in event c = after (take_rounded memory_source (run_of c.run c.memory) event (lent_cells c) (lent_figures c)) c
 
 -- `figures`: `C f f ..`, the lent figures, token by token
 unfoldable pub figures_in : Held → Held
-figures_in c = told (line_texts (67 ∷ []) (lentFigures c)) c
+figures_in c = told (line_texts (67 ∷ []) (lent_figures c)) c
 
 -- `sum`: `T n`, the run's T
-unfoldable pub sumIn : Held → Held
-sumIn c = told (line_texts (84 ∷ []) (c.run.rounding.sum ∷ [])) c
+unfoldable pub sum_in : Held → Held
+sum_in c = told (line_texts (84 ∷ []) (c.run.rounding.sum ∷ [])) c
 
 -- `ended`: `E` or `O`
-unfoldable pub endedIn : Held → Held
-endedIn c = told (closing_texts (ended_of c.run.state)) c
+unfoldable pub ended_in : Held → Held
+ended_in c = told (closing_texts (ended_of c.run.state)) c
 
 -- any command; those that read a file and `quit` are left to the program, and a line that is none is answered by `?`
 abbrev pub answered : List ℕ → Command → Held → Held
 answered file (Plan start) c = c
-answered file (Open workers) c = openedIn file workers c
+answered file (Open workers) c = opened_in file workers c
 answered file (OpenRounded asked) c = c
-answered file (Choose choice) c = chosenIn choice c
-answered file (Offer choice) c = offeredIn choice c
-answered file (Take event) c = takenIn event c
+answered file (Choose choice) c = chosen_in choice c
+answered file (Offer choice) c = offered_in choice c
+answered file (Take event) c = taken_in event c
 answered file (Mark journal) c = c
 answered file Figures c = figures_in c
-answered file Sum c = sumIn c
-answered file Ended c = endedIn c
+answered file Sum c = sum_in c
+answered file Ended c = ended_in c
 answered file Quit c = c
 answered file Unknown c = told ((63 ∷ 10 ∷ []) ∷ []) c

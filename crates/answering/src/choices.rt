@@ -1,6 +1,6 @@
 // The answers to choices, offers and takings: the first cells and figures are lent, as many as the run has.
 ghost use Rattle.std.specs.Prelude.{◌≡◌, min};
-ghost use Rattle.answering.specs.Answers.{held_of, chosenIn, offeredIn, takenIn};
+ghost use Rattle.answering.specs.Answers.{held_of, chosen_in, offered_in, taken_in};
 
 use crate::Talk;
 use commands::Choice;
@@ -27,7 +27,7 @@ pub(crate) fn choose_line(
     out: &mut [u8],
 ) -> Talk
     ensures { held_of result mem.new cells.now figures.new out.new ≡
-        chosenIn choice (held_of talk mem.old cells.now figures.old out.old) }
+        chosen_in choice (held_of talk mem.old cells.now figures.old out.old) }
 {
     let run = talk.run;
     let sink = talk.sink;
@@ -56,7 +56,7 @@ pub(crate) fn offer_line(
     out: &mut [u8],
 ) -> Talk
     ensures { held_of result mem.now cells.now figures.now out.new ≡
-        offeredIn choice (held_of talk mem.now cells.now figures.now out.old) }
+        offered_in choice (held_of talk mem.now cells.now figures.now out.old) }
 {
     let run = talk.run;
     let sink = talk.sink;
@@ -83,7 +83,7 @@ pub(crate) fn take_event(
     out: &mut [u8],
 ) -> Talk
     ensures { held_of result mem.new cells.now figures.new out.new ≡
-        takenIn event (held_of talk mem.old cells.now figures.old out.old) }
+        taken_in event (held_of talk mem.old cells.now figures.old out.old) }
 {
     let run = talk.run;
     let sink = talk.sink;

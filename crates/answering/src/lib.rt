@@ -12,7 +12,7 @@ ghost use Rattle.marking.specs.Marking.{walked, mark_of, left_memory};
 ghost use Rattle.journal_file.specs.Records.{records_in};
 ghost use Rattle.sink.specs.Sinks.{put_each};
 ghost use Rattle.answering.specs.Lines.{reading_texts, marking_texts};
-ghost use Rattle.answering.specs.Answers.{held_of, openedIn, openedRoundedIn, told, figures_in, sumIn, endedIn, answered};
+ghost use Rattle.answering.specs.Answers.{held_of, opened_in, opened_rounded_in, told, figures_in, sum_in, ended_in, answered};
 
 use choices::{at_most, choose_line, offer_line, take_event};
 use commands::{Command, RoundingAt};
@@ -71,7 +71,7 @@ pub fn answer_mark(
 #[tactic(auto, using(crate::proofs::Laws::opened_is))]
 fn open_run(talk: Talk, file: &[u8], workers: u16, mem: &mut [u16], out: &mut [u8]) -> Talk
     ensures { (cells figures : List ℕ) → held_of result mem.new cells figures out.new ≡
-        openedIn file.now workers (held_of talk mem.old cells figures out.old) }
+        opened_in file.now workers (held_of talk mem.old cells figures out.old) }
 {
     let sink = talk.sink;
     let opened = opening::open(file, workers, mem);
@@ -109,7 +109,7 @@ pub fn answer_open_rounded(
     out: &mut [u8],
 ) -> Talk
     ensures { held_of result mem.new cells.now figures.new out.new ≡
-        openedRoundedIn file.now asked many
+        opened_rounded_in file.now asked many
         (held_of talk mem.old cells.now figures.old out.old) }
 {
     let sink = talk.sink;
@@ -171,7 +171,7 @@ fn tell_figures(talk: Talk, figures: &[u32], out: &mut [u8]) -> Talk
 #[tactic(auto, using(crate::proofs::Laws::sum_told))]
 fn tell_sum(talk: Talk, out: &mut [u8]) -> Talk
     ensures { (m cells figures : List ℕ) → held_of result m cells figures out.new ≡
-        sumIn (held_of talk m cells figures out.old) }
+        sum_in (held_of talk m cells figures out.old) }
 {
     let run = talk.run;
     let sink = talk.sink;
@@ -187,7 +187,7 @@ fn tell_sum(talk: Talk, out: &mut [u8]) -> Talk
 #[tactic(auto, using(crate::proofs::Laws::ended_is, crate::proofs::Laws::not_ended_is))]
 fn tell_end(talk: Talk, out: &mut [u8]) -> Talk
     ensures { (m cells figures : List ℕ) → held_of result m cells figures out.new ≡
-        endedIn (held_of talk m cells figures out.old) }
+        ended_in (held_of talk m cells figures out.old) }
 {
     if state::ended(talk.run.state) {
         return tell(talk, b"E\n", out);

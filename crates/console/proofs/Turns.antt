@@ -17,7 +17,7 @@ use Rattle.commands.specs.declared.RoundingAt.{RoundingAt}
 use Rattle.commands.specs.declared.Command.{Command}
 use Rattle.cells.specs.Cells.{cells_in}
 use Rattle.answering.specs.declared.Talk.{Talk}
-use Rattle.answering.specs.Answers.{held_of, openedRoundedIn}
+use Rattle.answering.specs.Answers.{held_of, opened_rounded_in}
 use Rattle.serving.specs.Serving.{for_program}
 use Rattle.serving.proofs.Cutting.{served_own_line}
 use Rattle.console.specs.declared.input.Input.{Input}
@@ -44,7 +44,7 @@ others e f = ap for_program e ∙ f
 pub rounded_as : (asked : RoundingAt) (c : Console) (file : List ℕ) (lent : Lent) (out found : List ℕ) → length found ≤ 16388 →
     {n : ℕ} → n ≡ length (take (length lent.cells) (cells_in found)) →
     {memory cells figures left : List ℕ} {talk : Talk} → cells ≡ take (length lent.cells) (cells_in found) ++ drop n lent.cells →
-    held_of talk memory cells figures left ≡ openedRoundedIn (take c.size file) asked n (held_of c.talk lent.memory cells lent.figures out) →
+    held_of talk memory cells figures left ≡ opened_rounded_in (take c.size file) asked n (held_of c.talk lent.memory cells lent.figures out) →
     Rounded asked c file lent out (record { talk = talk; size = c.size; input = c.input; done = c.done }) (lent_of memory cells figures) left
 rounded_as asked c file lent out found most n-is {memory} {cells} kept opened = record {
   found = found;
@@ -55,7 +55,7 @@ rounded_as asked c file lent out found most n-is {memory} {cells} kept opened = 
   size = refl;
   input = refl;
   done = refl;
-  opened = opened ∙ ap (λ n. openedRoundedIn (take c.size file) asked n (held_of c.talk lent.memory cells lent.figures out)) n-is;
+  opened = opened ∙ ap (λ n. opened_rounded_in (take c.size file) asked n (held_of c.talk lent.memory cells lent.figures out)) n-is;
 }
 
 -- a console that reads more

@@ -13,7 +13,7 @@ use Rattle.marking.specs.Marking.{mark_of}
 use Rattle.journal_file.specs.Records.{records_in}
 use Rattle.answering.specs.Lines.{reading_texts, marking_texts}
 use Rattle.cells.specs.Cells.{cells_in}
-use Rattle.answering.specs.Answers.{Held, held_of, openedRoundedIn}
+use Rattle.answering.specs.Answers.{Held, held_of, opened_rounded_in}
 use Rattle.serving.specs.Lines.{lines_in}
 use Rattle.serving.specs.Serving.{for_program, served_from}
 use Rattle.console.specs.declared.Console.{Console}
@@ -104,7 +104,7 @@ pub record Rounded (asked : RoundingAt) (c : Console) (file : List ℕ) (lent : 
   pub input : r.input ≡ c.input
   pub done : r.done ≡ c.done
   pub opened : holding r lent' left ≡
-      openedRoundedIn (take c.size file) asked (length cells) (holding c (lent_of lent.memory lent'.cells lent.figures) out)
+      opened_rounded_in (take c.size file) asked (length cells) (holding c (lent_of lent.memory lent'.cells lent.figures) out)
 
 -- the console, the plan file, what is lent and the output are these
 pub record Same (c : Console) (file : List ℕ) (lent : Lent) (out : List ℕ) (r : Console) (file' : List ℕ) (lent' : Lent) (out' : List ℕ) : Type 0 where

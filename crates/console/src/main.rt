@@ -220,7 +220,7 @@ fn own_line(
     buffer: &[u8],
     out: &mut [u8],
 ) -> Console
-    requires kept_2 { Kept (length file.old) (length buffer.now) was }
+    requires held { Kept (length file.old) (length buffer.now) was }
     requires size_bound { was.input.at + size < was.input.end }
     ensures kept { Kept (length file.new) (length buffer.now) result }
     ensures obeys { Obeyed (command_of (take size (drop was.input.at buffer.now))) (console_from was (was.input.at + size + 1))

@@ -9,7 +9,7 @@ ghost use Rattle.vocabulary.specs.Refusals.{number_of};
 ghost use Rattle.rules.specs.Rounding.{choose_rounded};
 ghost use Rattle.rules.specs.RoundedOffers.{offer_rounded, take_record_rounded, take_rounded};
 ghost use Rattle.tables.specs.Calls.{memory_source};
-ghost use Rattle.engine.specs.Machines.{chosen_of as chosenBy};
+ghost use Rattle.engine.specs.Machines.{chosen_of as chosen_by};
 ghost use Rattle.rounding.specs.Roundings.{rounding_of};
 ghost use Rattle.rounding.specs.Settlings.{settle_by};
 ghost use Rattle.rounding.specs.Runs.{run_of};
@@ -30,7 +30,7 @@ pub struct Chosen {
 // A choice that was made or refused, with what its answer does to T and the figures.
 #[tactic(auto, unfolding(crate::specs::Runs::chosen_of, engine::specs::Machines::chosen_of, rounding::specs::Runs::run_of))]
 fn settled(rounding: Rounding, chosen: engine::Chosen, cells: &[u32], figures: &mut [u32]) -> Chosen
-    ensures { (m : List ℕ) → chosen_of result m figures.new ≡ joined (chosenBy chosen m) (rounding_of rounding)
+    ensures { (m : List ℕ) → chosen_of result m figures.new ≡ joined (chosen_by chosen m) (rounding_of rounding)
         (settle_by (rounding_of rounding) (answer_of chosen.answer) cells.now figures.old) }
 {
     let answer = chosen.answer;

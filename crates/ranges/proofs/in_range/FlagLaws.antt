@@ -90,9 +90,9 @@ module _ (pipes : ℕ) (serial : List Bool) where
   tested : every 16 (flag_sound pipes serial) ≡ if (row_within (flag_row serial) (pipe_row pipes)) (get_or serial 0 false) false
   tested = flags_are ∙ swap (get_or serial 0 false) (every 16 (serial_sound pipes serial)) ∙ ap (λ b. if b (get_or serial 0 false) false) (sym within_pipes)
 
-  module _ {flags known : List ℕ} {b : Bool} (flags-is : flags ≡ flag_row serial) (Known-is : known ≡ pipe_row pipes) (b_is : b ≡ row_within flags known) where
+  module _ {flags known : List ℕ} {b : Bool} (flags-is : flags ≡ flag_row serial) (known_is : known ≡ pipe_row pipes) (b_is : b ≡ row_within flags known) where
     row_is : b ≡ row_within (flag_row serial) (pipe_row pipes)
-    row_is = b_is ∙ rw (flags-is, Known-is)
+    row_is = b_is ∙ rw (flags-is, known_is)
 
     pub no_pipe_serial : b ≡ false → false ≡ every 16 (flag_sound pipes serial)
     no_pipe_serial e = rw (tested, sym row_is ∙ e)
