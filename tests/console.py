@@ -26,7 +26,7 @@ import examples
 import makers
 from cases import CASES
 from chance import Chance
-from console import LONGEST_LINE, Console, answers_to, cells_bytes, console_output, lines_in
+from console import LONGEST_LINE, BuiltConsole, Console, answers_to, cells_bytes, console_output, lines_in
 from journal import FIELDS, RECORD, journal_bytes, journal_of, verdict_line
 from makers import raw_file, raw_record
 from plan_file import Plan, encode
@@ -410,7 +410,7 @@ def talk(program, folder, lines, chance, close=True):
 
     Its beginning may come with the command before.
     """
-    second = Console(folder)
+    second = BuiltConsole(folder)
     there = Talk(program, folder)
     begun = 0
     try:
@@ -450,7 +450,7 @@ def talks(program, seed):
         many = talk(program, folder, lines_in(stored_input()), chance, close=False)
     for _ in range(TALKS):
         with tempfile.TemporaryDirectory() as folder:
-            lines = Script(chance, folder, one_by_one=True).make().lines
+            lines = Script(chance, folder, one_by_one=True, made=BuiltConsole).make().lines
             many += talk(program, folder, lines, chance)
     took = time.monotonic() - begun
     print(f"console: {many} answers, each before the next command was sent, in {took:.1f} s")

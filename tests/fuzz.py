@@ -35,6 +35,7 @@ import makers
 import plan_file
 import scripts
 from chance import Chance
+from console import BuiltConsole
 from plan_file import Refused, encode
 from program import output
 from run import MOST_WORKERS, Run
@@ -395,7 +396,7 @@ def compare_console(wanted, folder, figures):
     until = time.monotonic() + wanted.seconds
     while time.monotonic() < until:
         with tempfile.TemporaryDirectory(dir=folder) as room:
-            script = scripts.Script(chance, room).make()
+            script = scripts.Script(chance, room, made=BuiltConsole).make()
             figures["scripts"] += 1
             if script_differs(wanted, chance, figures["scripts"], script, room):
                 return False

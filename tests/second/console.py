@@ -85,6 +85,9 @@ class Console:
         self.keep(None)
         self.over = False
 
+    def read(self, path, most):
+        return file_at(self.folder, path, most)
+
     def keep(self, run, cells=(), figures=()):
         self.run, self.cells, self.figures = run, cells, figures
 
@@ -125,7 +128,7 @@ class Console:
 
     def plan(self, path):
         # Kept, refused or not; the run needs it no longer. A longer file is seen to be longer.
-        self.file = file_at(self.folder, path, LONGEST_FILE + 1)
+        self.file = self.read(path, LONGEST_FILE + 1)
         try:
             plan = plan_file.read(self.file)
         except Refused as refused:
@@ -151,7 +154,7 @@ class Console:
         return "A"
 
     def open_rounded(self, workers, pipe, base, path):
-        cells = cells_in(file_at(self.folder, path, LONGEST_CELLS))
+        cells = cells_in(self.read(path, LONGEST_CELLS))
         # As many figures are lent as cells; none of either after a refusal.
         figures = [0] * len(cells)
         self.keep(None)
@@ -173,7 +176,7 @@ class Console:
 
     def mark(self, workers, path):
         # A run of its own, over the kept plan file: the open run is not touched.
-        journal = records_in(file_at(self.folder, path, LONGEST_JOURNAL))
+        journal = records_in(self.read(path, LONGEST_JOURNAL))
         verdict, _ = mark(self.file, workers, journal)
         return verdict_line(verdict)
 
@@ -184,9 +187,20 @@ def lines_in(data):
     return lines + [last] if last else lines
 
 
-def answers_to(folder, lines):
+class BuiltConsole(Console):
+    """As the program that is built: std opens files by text alone, so one whose path is not UTF-8 cannot be opened."""
+
+    def read(self, path, most):
+        try:
+            path.decode("utf-8")
+        except UnicodeDecodeError:
+            return b""
+        return super().read(path, most)
+
+
+def answers_to(folder, lines, made=Console):
     """The answers to these lines, up to `quit`."""
-    console = Console(folder)
+    console = made(folder)
     for line in lines:
         answer = console.answer(line)
         if console.over:

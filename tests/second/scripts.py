@@ -139,7 +139,7 @@ class Script:
     Where they are said one by one, there are no blocks, and nothing after `quit`.
     """
 
-    def __init__(self, chance, folder, one_by_one=False):
+    def __init__(self, chance, folder, one_by_one=False, made=Console):
         self.chance = chance
         self.one_by_one = one_by_one
         self.folder = os.fsencode(folder)
@@ -147,7 +147,7 @@ class Script:
         for name, content in self.files.items():
             with open(os.path.join(self.folder, name), "wb") as file:
                 file.write(content)
-        self.console = Console(folder)
+        self.console = made(folder)
         self.lines, self.answers, self.figures = [], [], Counter()
         # How many bytes the lines have, with their newlines.
         self.size = 0
