@@ -548,10 +548,8 @@ class Room:
     def __init__(self, folder, origin, warm=True):
         self.root = Path(folder)
         shutil.copy2(origin / "crates.txt", self.root)
-        left = shutil.ignore_patterns() if warm else shutil.ignore_patterns("out")
+        left = shutil.ignore_patterns() if warm else shutil.ignore_patterns("out", "must-fail")
         shutil.copytree(origin / "crates", self.root / "crates", symlinks=True, ignore=left)
-        # `rt` takes the folder above for the repository's top.
-        (self.root / ".git").mkdir(exist_ok=True)
 
     def rt(self, words, longest, crate=None):
         """The exit status of rt in a crate's folder or at the top, None where it took too long, and what it said."""
@@ -766,14 +764,15 @@ class Judge:
         with tempfile.TemporaryDirectory() as folder:
             above = Room(folder, room.root, warm=False)
             with above.changed(trial):
-                status, said = above.rt(["all", "check"], LONGEST_ABOVE)
+                above.rt(["fmt"], LONGEST_CHECK, mutant.crate)  # what is not laid out is refused for that
+                status, said = above.rt(["ci"], LONGEST_ABOVE)
         if self.keep:
             (self.keep / (mutant.label.replace("/", ".") + "-above")).write_text(said, encoding="utf-8")
-        unproved = re.findall(r"^rt: (\w+) NOT PROVED \(exit", said, re.M)
-        differing = re.findall(r"^rt: (\w+) proved, and its run FAILED", said, re.M)
+        unproved = re.findall(r"^rt: (\w+) NOT PROVED$", said, re.M)
+        differing = sorted(set(re.findall(r"^rt: (\w+)(?: \([^)]*\))?: what the program wrote", said, re.M)))
         outside = "" if mutant.owner.proved else "no contract speaks of it; "
         if status is None or status not in (0, 1) or mutant.crate in unproved:
-            verdict.told = f"rt all check cannot tell (exit status {status}; not proved: {unproved})"
+            verdict.told = f"rt ci cannot tell (exit status {status}; not proved: {unproved})"
         elif unproved:
             verdict.told, verdict.explained = f"refused by the crate above it: {', '.join(unproved)}", True
         elif differing:
