@@ -2,9 +2,10 @@
 """What the proofs cost: for each crate the lines of code, of specs and of proof, their ratio, and the seconds to check it.
 
     python3 tests/costs.py            lines
-    python3 tests/costs.py --check    checks every crate from nothing first, one at a time, with its tests
+    python3 tests/costs.py --check    takes a verdict of every crate first, one at a time
 
 Lines are those that are neither empty nor a comment. Contracts stand in the code's files and are counted with the specs.
+Seconds are those of a verdict, which checks the crate and all that it depends on from nothing.
 """
 
 import subprocess
@@ -62,10 +63,9 @@ def counted(name):
 
 
 def checked_now(names):
-    """Seconds to check each crate, with its tests, from nothing: a verdict takes nothing that an earlier check kept."""
+    """Seconds of a verdict of each crate, which takes nothing that an earlier check kept, of the crates below it neither."""
     seconds = {}
     for name in names:
-        subprocess.run(["rt", "check"], cwd=ROOT / "crates" / name, capture_output=True)  # what it depends on is proved first
         began = time.monotonic()
         said = subprocess.run(["rt", "verdict"], cwd=ROOT / "crates" / name, capture_output=True, text=True)
         if said.returncode != 0:
