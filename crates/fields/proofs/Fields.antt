@@ -1,5 +1,5 @@
 -- Fields and their bytes: each is made of the other again.
-use mathlib.Core.Path.{◌≡◌, refl, ◌∙◌}
+use mathlib.Core.Path.{◌≡◌, refl, ap, ◌∙◌}
 use mathlib.Core.List.{List, [], ◌∷◌}
 use Prim.Native.Nat.{ℕ, zero, suc, ◌+◌, ◌-◌, ◌*◌, ◌/◌, ◌%◌, ◌≤◌, ◌<◌}
 use native.Mathlib.Numerals.{add-one, add-two}
@@ -7,6 +7,7 @@ use native.Mathlib.Omega.{arith}
 use borrow.Author.Tests.{le-leb, lt-leb}
 use lib.ListN.{length, take, drop, length-drop}
 use lib.Seq.{get_or-drop, drop-cons}
+use Rattle.std.proofs.lemmas.List.{take_rest}
 use Rattle.fields.specs.Bytes.{field_at, field_in, fields, field_bytes, Bytes}
 use Rattle.rules.specs.Lists.{Every}
 
@@ -15,9 +16,14 @@ pub field_inside : (s : List ℕ) (i : ℕ) {r : ℕ} → i + 2 ≤ length s →
 unfolding field_in
 field_inside s i h e = e ∙ rw (le-leb (i + 2) (length s) h)
 
-pub field_is : (s : List ℕ) (i : ℕ) {r : ℕ} → i + 2 ≤ length s → r ≡ field_at s i → r ≡ field_in s i
+-- the field that the rest of a list from a place on begins with
+pub field_read : (s rest : List ℕ) (i : ℕ) {r : ℕ} → rest ≡ take (length s - i) (drop i s) → i ≤ length s → 2 ≤ length rest → r ≡ field_at rest 0 → r ≡ field_in s i
 unfolding field_in
-field_is s i h e = rw (le-leb (i + 2) (length s) h) e
+field_read s rest i e h two f =
+    let same : rest ≡ drop i s = e ∙ take_rest s i in
+    let long : length rest ≡ length s - i = ap length same ∙ length-drop i s in
+    let first : i + 0 ≡ i = omega arith in
+    rw (le-leb (i + 2) (length s) (omega arith)) (f ∙ rw (same, get_or-drop i s 0 0, get_or-drop i s 1 0, first))
 
 pub no_field : (s : List ℕ) (i : ℕ) → length s < i + 2 → 0 ≡ field_in s i
 unfolding field_in
