@@ -1,11 +1,10 @@
 -- When the tables in memory stand for the tables of the rules.
-use Rattle.std.specs.Prelude.{◌≡◌, Bool, true, false, not, List, [], ◌∷◌, ◌++◌, ℕ, ◌+◌, ◌-◌, ◌<◌, ◌≤◌, eqb, length, take, drop}
+use Rattle.std.specs.Prelude.{◌≡◌, Bool, true, false, not, List, [], ◌∷◌, ◌++◌, ℕ, ◌+◌, ◌-◌, ◌<◌, ◌≤◌, eqb, length, take, drop, Ok}
 use Rattle.rules.specs.Lists.{keep, has, empty, times, Every}
 use Rattle.rules.specs.TakingTokens.{Held, tokens_of}
 use Rattle.rules.specs.TakingTokens as rules
-use Rattle.tables.specs.declared.Numbers.{Numbers}
 use Rattle.tables.specs.Layout.{lent, no_mark, deferred_mark, ready_mark, finished_mark, facts_of}
-use Rattle.tables.specs.Facts.{standing_of, numbers_of}
+use Rattle.tables.specs.Facts.{part, standing_of, numbers_of}
 use Rattle.tables.specs.State.{State, InRange, table_of, watches_of, queue_of}
 
 -- a state with more memory lent
@@ -14,7 +13,7 @@ beyond more x = (x.0, x.1 ++ more)
 
 -- a token's record is good and lists these numbers
 abbrev pub Recorded : List ℕ → ℕ → List ℕ → Type 0
-Recorded f n ns = (a : ℕ) × (b : ℕ) × (numbers_of f n ≡ Numbers.Part a b) × (take (b - a) (drop a f) ≡ ns)
+Recorded f n ns = (a : ℕ) × (b : ℕ) × (numbers_of f n ≡ Ok (part a b)) × (take (b - a) (drop a f) ≡ ns)
 
 -- a deferred token waits for the numbers of its record that have not finished pipe 0, and there are some
 abbrev pub Waits : (ℕ → List ℕ) → (ℕ → ℕ) → Held → Type 0

@@ -1,15 +1,14 @@
 -- A token's finish at pipe 0, on the tables in memory.
-use Rattle.std.specs.Prelude.{◌≡◌, Bool, true, false, not, List, [], ◌∷◌, ℕ, suc, ◌+◌, ◌-◌, ◌<◌, leb, eqb, length, get_or, set, replicate}
+use Rattle.std.specs.Prelude.{◌≡◌, Bool, true, false, not, List, [], ◌∷◌, ℕ, suc, ◌+◌, ◌-◌, ◌<◌, leb, eqb, length, get_or, set, replicate, Result, Ok, Err}
 use Rattle.std.proofs.lemmas.List.Edits.{sets}
 use Rattle.std.proofs.Math.Seq.{slice}
 use Rattle.rules.specs.Lists.{if, must, must_not, keep, any}
 use Rattle.rules.specs.Sources.{Released as Outcome, Broken, Passed}
 use Rattle.tables.specs.declared.Tables.{Tables}
-use Rattle.tables.specs.declared.Released.{Released}
-use Rattle.tables.specs.declared.Hold.{Hold}
+use Rattle.tables.specs.declared.Spoiled.{Spoiled}
 use Rattle.tables.specs.declared.Tally.{Tally}
 use Rattle.tables.specs.Layout.{standing_at, deferred_at, watches_at, ready_at, most_tokens, ready_mark, finished_mark, facts_of}
-use Rattle.tables.specs.Facts.{by_hold, left_hold}
+use Rattle.tables.specs.Facts.{Hold, spoiled, by_hold, left_hold}
 use Rattle.tables.specs.State.{State, marks, table_of}
 
 abbrev pub is_free : Hold → Bool
@@ -49,11 +48,15 @@ next_from m d cell held = next_in d cell (slice (watches_at + cell) (watches_at 
 abbrev pub Unwatched : List ℕ → ℕ → ℕ → Type 0
 Unwatched m d cell = (i : ℕ) → i < cell → get_or m (watches_at + i) 0 ≡ d → ⊥
 
+-- the two counts
+abbrev pub tally : ℕ → ℕ → Tally
+tally n k = record { free = n; held = k }
+
 -- of some tokens: how many nothing holds, and how many a number does, unless one is no token or has a bad record
-unfoldable pub tally_of : (ℕ → Hold) → List ℕ → Tally
+unfoldable pub tally_of : (ℕ → Hold) → List ℕ → Result Tally Spoiled
 tally_of hold ts =
-    must_not (any (λ t. is_unsound (hold t)) ts) Tally.Unsound
-    (Tally.Known (length (keep (λ t. is_free (hold t)) ts)) (length (keep (λ t. is_held (hold t)) ts)))
+    must_not (any (λ t. is_unsound (hold t)) ts) (Err spoiled)
+    (Ok (tally (length (keep (λ t. is_free (hold t)) ts)) (length (keep (λ t. is_held (hold t)) ts))))
 
 -- the watch of a token after the finish of d: another where it watches d and another number holds it, else as before
 unfoldable pub new_watch : (ℕ → Hold) → ℕ → ℕ → ℕ → ℕ
@@ -126,9 +129,9 @@ passes Broken = false
 passes (Passed x) = true
 
 -- what the code returns of it
-unfoldable pub released_of : Outcome State → Released
-released_of Broken = Released.Broken
-released_of (Passed x) = Released.Passed x.0
+unfoldable pub released_of : Outcome State → Result Tables Spoiled
+released_of Broken = Err spoiled
+released_of (Passed x) = Ok x.0
 
 -- what the memory becomes: where it is broken, "state and memory unchanged"
 unfoldable pub released_memory : List ℕ → Outcome State → List ℕ

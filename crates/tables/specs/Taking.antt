@@ -1,25 +1,23 @@
 -- Taking a token from the tables in memory.
-use Rattle.std.specs.Prelude.{List, [], ◌∷◌, map, ℕ, ◌+◌, ◌-◌, leb, ltb, get_or, set}
+use Rattle.std.specs.Prelude.{List, [], ◌∷◌, map, ℕ, ◌+◌, ◌-◌, leb, ltb, get_or, set, Option, Some, None, Result, Ok, Err}
 use Rattle.std.proofs.lemmas.List.Edits.{sets}
 use Rattle.rules.specs.Lists.{if, must}
 use Rattle.rules.specs.Sources.{Taken as Outcome, Spoiled, Nothing, Took}
 use Rattle.tables.specs.declared.Tables.{Tables}
 use Rattle.tables.specs.declared.Taken.{Taken}
-use Rattle.tables.specs.declared.Offer.{Offer}
-use Rattle.tables.specs.declared.Hold.{Hold}
-use Rattle.tables.specs.declared.Count.{Count}
+use Rattle.tables.specs.declared.Spoiled.{Spoiled as TableError}
 use Rattle.tables.specs.Layout.{standing_at, deferred_at, watches_at, ready_at, most_tokens, no_mark, deferred_mark, facts_of}
-use Rattle.tables.specs.Facts.{by_hold, new_hold}
+use Rattle.tables.specs.Facts.{Hold, spoiled, by_hold, new_hold}
 use Rattle.tables.specs.State.{State, span, marks}
 
 -- the first of some tokens that is free, or `end` where none is; no answer where a record before it is bad
-unfoldable pub first_free : (ℕ → Hold) → ℕ → List ℕ → Count
-first_free hold end [] = Count.Known end
+unfoldable pub first_free : (ℕ → Hold) → ℕ → List ℕ → Result ℕ TableError
+first_free hold end [] = Ok end
 first_free hold end (t ∷ ts) =
-    by_hold (hold t) Count.Unknown (Count.Known t) (λ n. first_free hold end ts)
+    by_hold (hold t) (Err spoiled) (Ok t) (λ n. first_free hold end ts)
 
 -- rule 2: "The line takes again, within the same choice": the first free token from Count on, or N where none is
-unfoldable pub find_of : List ℕ → ℕ → ℕ → Count
+unfoldable pub find_of : List ℕ → ℕ → ℕ → Result ℕ TableError
 find_of f tokens count = first_free (new_hold f count) tokens (span count tokens)
 
 -- the watch of a token that is passed over: the number by which it is held (0 where nothing holds it or its record is bad: such a token
@@ -49,9 +47,9 @@ without_first t = record { tokens = t.tokens; count = t.count; first = t.first +
 
 -- "token number Count (Count then rises by one) if it was below N, else it stops", after those passed over were deferred;
 -- spoiled where that takes the table "past its range"
-unfoldable pub take_upto : Tables → List ℕ → Count → Outcome State
-take_upto t m Count.Unknown = Spoiled
-take_upto t m (Count.Known upto) =
+unfoldable pub take_upto : Tables → List ℕ → Result ℕ TableError → Outcome State
+take_upto t m (Err e) = Spoiled
+take_upto t m (Ok upto) =
     must (leb (t.held + (upto - t.count)) most_tokens) Spoiled
     (if (ltb upto t.tokens)
     (Took upto (with_count t upto (upto + 1), deferred_upto t upto m))
@@ -70,11 +68,15 @@ take_of t m =
     (take_ready t m (oldest_of t m))
     (take_upto t m (find_of (facts_of m) t.tokens t.count))
 
+-- a token, or none, and the tables after it
+abbrev pub taken : Option ℕ → Tables → Taken
+taken token t = record { token = token; tables = t }
+
 -- what the code returns of it
-unfoldable pub taken_of : Outcome State → Taken
-taken_of Spoiled = Taken.Spoiled
-taken_of (Nothing x) = Taken.Nothing x.0
-taken_of (Took t x) = Taken.Took t x.0
+unfoldable pub taken_of : Outcome State → Result Taken TableError
+taken_of Spoiled = Err spoiled
+taken_of (Nothing x) = Ok (taken None x.0)
+taken_of (Took t x) = Ok (taken (Some t) x.0)
 
 -- what the memory becomes: where it is spoiled, "state and memory unchanged"
 unfoldable pub taken_memory : List ℕ → Outcome State → List ℕ
@@ -83,7 +85,7 @@ taken_memory m (Nothing x) = x.1
 taken_memory m (Took t x) = x.1
 
 -- what the code says of it before anything is written
-unfoldable pub offered_of : Outcome State → Offer
-offered_of Spoiled = Offer.Spoiled
-offered_of (Nothing x) = Offer.Nothing
-offered_of (Took t x) = Offer.Token t
+unfoldable pub offered_of : Outcome State → Result (Option ℕ) TableError
+offered_of Spoiled = Err spoiled
+offered_of (Nothing x) = Ok None
+offered_of (Took t x) = Ok (Some t)

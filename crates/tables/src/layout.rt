@@ -29,7 +29,7 @@ pub const TOKENS: u16 = 4096;
 // The most numbers in a record.
 pub const RECORD_NUMBERS: usize = 16;
 
-// The standings.
+// The standings: numbers and no enum, as the lent memory is of 16-bit numbers (docs/LAYOUT.md).
 pub const NO_MARK: u16 = 0;
 
 pub const DEFERRED_MARK: u16 = 1;

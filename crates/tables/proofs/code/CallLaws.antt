@@ -5,13 +5,12 @@ use mathlib.Core.List.{List}
 use Prim.Native.Nat.{ℕ, ◌<◌, ◌≤◌}
 use lib.ListN.{length, take}
 use borrow.Author.Tests.{le-leb, lt-leb, lt-ltb, le-ltb}
+use Rattle.std.specs.Prelude.{Option, Result, Err}
 use Rattle.rules.specs.Sources.{Spoiled}
 use Rattle.tables.specs.declared.Tables.{Tables}
 use Rattle.tables.specs.declared.Taken.{Taken}
-use Rattle.tables.specs.declared.Released.{Released}
-use Rattle.tables.specs.declared.Offer.{Offer}
-use Rattle.tables.specs.declared.Hold.{Hold}
-use Rattle.tables.specs.Facts.{new_hold, left_hold}
+use Rattle.tables.specs.declared.Spoiled.{Spoiled as TableError}
+use Rattle.tables.specs.Facts.{spoiled, new_hold, left_hold}
 use Rattle.tables.specs.State.{InRange, sound_of}
 use Rattle.tables.specs.Taking.{take_of, taken_of, taken_memory, offered_of}
 use Rattle.tables.specs.Releasing.{release_of, released_of, released_memory, passes}
@@ -32,27 +31,27 @@ module _ (t : Tables) (m : List ℕ) {r : Bool} (told : r ≡ sound_of (t, m)) w
   unfolding safe_take
   take_not e = rw (← told, e)
 
-  pub takes : {a : Taken} {m' : List ℕ} → r ≡ true → (a ≡ taken_of (take_of t m)) × (m' ≡ taken_memory m (take_of t m)) →
+  pub takes : {a : Result Taken TableError} {m' : List ℕ} → r ≡ true → (a ≡ taken_of (take_of t m)) × (m' ≡ taken_memory m (take_of t m)) →
       (a ≡ taken_of (safe_take (t, m))) × (m' ≡ taken_memory m (safe_take (t, m)))
   takes e g = rw (take_is e) g
 
-  pub takes_none : r ≡ false → (Taken.Spoiled ≡ taken_of (safe_take (t, m))) × (m ≡ taken_memory m (safe_take (t, m)))
+  pub takes_none : r ≡ false → (Err spoiled ≡ taken_of (safe_take (t, m))) × (m ≡ taken_memory m (safe_take (t, m)))
   unfolding taken_of taken_memory
   takes_none e = rw (take_not e) (refl, refl)
 
-  pub offers : {a : Offer} → r ≡ true → a ≡ offered_of (take_of t m) → a ≡ offered_of (safe_take (t, m))
+  pub offers : {a : Result (Option ℕ) TableError} → r ≡ true → a ≡ offered_of (take_of t m) → a ≡ offered_of (safe_take (t, m))
   offers e g = rw (take_is e) g
 
-  pub offers_none : r ≡ false → Offer.Spoiled ≡ offered_of (safe_take (t, m))
+  pub offers_none : r ≡ false → Err spoiled ≡ offered_of (safe_take (t, m))
   unfolding offered_of
   offers_none e = rw (take_not e)
 
-  pub releases : (d : ℕ) {a : Released} {m' : List ℕ} → r ≡ true → (a ≡ released_of (release_of t d m)) × (m' ≡ released_memory m (release_of t d m)) →
+  pub releases : (d : ℕ) {a : Result Tables TableError} {m' : List ℕ} → r ≡ true → (a ≡ released_of (release_of t d m)) × (m' ≡ released_memory m (release_of t d m)) →
       (a ≡ released_of (safe_release d (t, m))) × (m' ≡ released_memory m (safe_release d (t, m)))
   unfolding safe_release
   releases d e g = rw (← told, e) g
 
-  pub releases_none : (d : ℕ) → r ≡ false → (Released.Broken ≡ released_of (safe_release d (t, m))) × (m ≡ released_memory m (safe_release d (t, m)))
+  pub releases_none : (d : ℕ) → r ≡ false → (Err spoiled ≡ released_of (safe_release d (t, m))) × (m ≡ released_memory m (safe_release d (t, m)))
   unfolding safe_release released_of released_memory
   releases_none d e = rw (← told, e) (refl, refl)
 
@@ -66,12 +65,12 @@ module _ (t : Tables) (m : List ℕ) {r : Bool} (told : r ≡ sound_of (t, m)) w
 
 -- what holds one token
 module _ (m : List ℕ) (count t : ℕ) where
-  pub new_few : length m < 32768 → Hold.Unsound ≡ safe_new_hold m count t
+  pub new_few : length m < 32768 → Err spoiled ≡ safe_new_hold m count t
   unfolding safe_new_hold
   new_few h = rw (lt-leb 32768 (length m) h)
 
   module _ (whole : 32768 ≤ length m) where
-    pub new_above : 4096 ≤ t → Hold.Unsound ≡ safe_new_hold m count t
+    pub new_above : 4096 ≤ t → Err spoiled ≡ safe_new_hold m count t
     unfolding safe_new_hold
     new_above h = rw (le-leb 32768 (length m) whole, le-ltb t 4096 h)
 
@@ -80,12 +79,12 @@ module _ (m : List ℕ) (count t : ℕ) where
     new_is h = rw (le-leb 32768 (length m) whole, lt-ltb t 4096 h)
 
 module _ (m : List ℕ) (tokens d t : ℕ) where
-  pub left_few : length m < 32768 → Hold.Unsound ≡ safe_left_hold m tokens d t
+  pub left_few : length m < 32768 → Err spoiled ≡ safe_left_hold m tokens d t
   unfolding safe_left_hold
   left_few h = rw (lt-leb 32768 (length m) h)
 
   module _ (whole : 32768 ≤ length m) where
-    pub left_above : 4096 < tokens → Hold.Unsound ≡ safe_left_hold m tokens d t
+    pub left_above : 4096 < tokens → Err spoiled ≡ safe_left_hold m tokens d t
     unfolding safe_left_hold
     left_above h = rw (le-leb 32768 (length m) whole, lt-leb tokens 4096 h)
 

@@ -8,12 +8,11 @@ use native.Mathlib.Nat.{add-zero}
 use lib.Dec.{eqb}
 use lib.ListN.{length, get_or, set, take, drop, replicate, length-replicate}
 use lib.Seq.{sets, slice, length-sets, length-slice, get_or-drop, get_or-take}
+use Rattle.std.specs.Prelude.{Ok}
 use Rattle.rules.specs.Lists.{keep, Below}
 use Rattle.rules.proofs.lists.Members.{below_mono, below_keep}
 use Rattle.tables.specs.declared.Tables.{Tables}
-use Rattle.tables.specs.declared.Hold.{Hold}
-use Rattle.tables.specs.declared.Released.{Released}
-use Rattle.tables.specs.Facts.{left_hold}
+use Rattle.tables.specs.Facts.{Hold, left_hold}
 use Rattle.tables.specs.State.{InRange, marks, table_of, watches_of}
 use Rattle.tables.specs.Releasing.{is_free, pick, sifted_from, renewed_in, watchers_in, woken_in, staying_in, staying_watches_in, unsound_in, closed_by, moved_by, moved_tables, moved_memory, release_of, Unwatched}
 use Rattle.tables.proofs.memory.Cells.{cell_below, cell_from, take_sets, drop_sets, slice_before, slice_sets, sets_slice}
@@ -135,7 +134,7 @@ module _ (t : Tables) (d : ℕ) (m : List ℕ) (ok : InRange t) (whole : 32768 �
     nobody_woken = ap length (sym (woken_same {m₁ = m} nobody_renewed) ∙ nobody)
 
   -- a finish that no token watches
-  pub release_nobody : d < t.tokens → {r : ℕ} → Next m d 0 t.held r → t.held ≤ r → Gives m (release_of t d m) (Released.Passed t) (set m (16384 + d) 3)
+  pub release_nobody : d < t.tokens → {r : ℕ} → Next m d 0 t.held r → t.held ≤ r → Gives m (release_of t d m) (Ok t) (set m (16384 + d) 3)
   release_nobody inside next none =
       let nobody : sifted_from true m 20480 d 0 t.held ≡ [] =
       watchers_skip m 20480 d t.held (omega (arith, ok.held)) (omega (arith, ok.held)) next ∙ sifted_end true m 20480 d _ t.held next.upto none in

@@ -8,10 +8,10 @@ use native.Mathlib.Nat.{add-zero}
 use borrow.Author.Tests.{eq-eqb, ne_eqb}
 use lib.ListN.{length, get_or, set, take, drop, length-set}
 use lib.Seq.{sets, slice, length-slice, take-set-le, drop-set-lt, set-get_or}
+use Rattle.std.specs.Prelude.{Some, None, Ok, Err}
 use Rattle.rules.specs.Lists.{keep}
 use Rattle.rules.proofs.lists.Members.{keep_most}
-use Rattle.tables.specs.declared.Hold.{Hold}
-use Rattle.tables.specs.Facts.{left_hold}
+use Rattle.tables.specs.Facts.{Hold, spoiled, left_hold}
 use Rattle.tables.specs.Releasing.{is_held, sifted_from, new_watch, new_watches, renewed_from, Unwatched}
 use Rattle.tables.proofs.memory.Cells.{take_less, drop_more, cell_below, cell_from, sets_store, sets_slice, row_next}
 use Rattle.tables.proofs.memory.MemoryLaws.{slice_same}
@@ -83,15 +83,15 @@ module _ {m₀ : List ℕ} {tokens d held : ℕ} {m : List ℕ} {cell : ℕ} (in
       hit₀ : get_or m₀ (24576 + cell) 0 ≡ d
       hit₀ = sym watch_is ∙ hit
 
-      set_by : {n : ℕ} → r ≡ Hold.By n → Renewed m₀ tokens d held (set m (24576 + cell) n) (cell + 1)
+      set_by : {n : ℕ} → r ≡ Ok (Some n) → Renewed m₀ tokens d held (set m (24576 + cell) n) (cell + 1)
       unfolding new_watch
       set_by e = renew_set (rw (eq-eqb (get_or m₀ (24576 + cell) 0) d hit₀, hold_is, e))
 
-      keep_free : r ≡ Hold.Free → Renewed m₀ tokens d held m (cell + 1)
+      keep_free : r ≡ Ok None → Renewed m₀ tokens d held m (cell + 1)
       unfolding new_watch
       keep_free e = renew_keep (rw (eq-eqb (get_or m₀ (24576 + cell) 0) d hit₀, hold_is, e))
 
-      keep_bad : r ≡ Hold.Unsound → Renewed m₀ tokens d held m (cell + 1)
+      keep_bad : r ≡ Err spoiled → Renewed m₀ tokens d held m (cell + 1)
       unfolding new_watch
       keep_bad e = renew_keep (rw (eq-eqb (get_or m₀ (24576 + cell) 0) d hit₀, hold_is, e))
 
@@ -182,15 +182,15 @@ module _ {m₀ : List ℕ} {tokens d held : ℕ} {m : List ℕ} {cell n : ℕ} (
       unfolding keep
       count_same e = rw (next_one, hold₀, e) at inv.count
 
-      pub renew_by : {v : ℕ} → h ≡ Hold.By v → Renewing m₀ tokens d held (set m (24576 + r) v) (r + 1) (n - 1)
+      pub renew_by : {v : ℕ} → h ≡ Ok (Some v) → Renewing m₀ tokens d held (set m (24576 + r) v) (r + 1) (n - 1)
       renew_by e =
           record {
             done = set_by passed renew_inside (next.hit renew_inside) h-is e;
             count = omega (arith, count_held (rw e));
           }
 
-      pub renew_free : h ≡ Hold.Free → Renewing m₀ tokens d held m (r + 1) n
+      pub renew_free : h ≡ Ok None → Renewing m₀ tokens d held m (r + 1) n
       renew_free e = record { done = keep_free passed renew_inside (next.hit renew_inside) h-is e; count = count_same (rw e) }
 
-      pub renew_bad : h ≡ Hold.Unsound → Renewing m₀ tokens d held m (r + 1) n
+      pub renew_bad : h ≡ Err spoiled → Renewing m₀ tokens d held m (r + 1) n
       renew_bad e = record { done = keep_bad passed renew_inside (next.hit renew_inside) h-is e; count = count_same (rw e) }

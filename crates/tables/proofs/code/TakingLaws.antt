@@ -6,98 +6,97 @@ use native.Mathlib.Omega.{arith}
 use borrow.Author.Tests.{lt-ltb, le-ltb, le-leb, lt-leb}
 use lib.ListN.{length, take, set, length-set}
 use lib.Seq.{sets, take-set-le}
+use Rattle.std.specs.Prelude.{Option, Some, None, Result, Ok, Err}
 use Rattle.rules.specs.Sources.{Taken as Outcome, Spoiled, Nothing, Took}
 use Rattle.tables.specs.declared.Tables.{Tables}
 use Rattle.tables.specs.declared.Taken.{Taken}
-use Rattle.tables.specs.declared.Offer.{Offer}
-use Rattle.tables.specs.declared.Hold.{Hold}
-use Rattle.tables.specs.declared.Count.{Count}
+use Rattle.tables.specs.declared.Spoiled.{Spoiled as TableError}
 use Rattle.tables.specs.Layout.{standing_at}
-use Rattle.tables.specs.Facts.{new_hold, by_hold}
+use Rattle.tables.specs.Facts.{Hold, spoiled, new_hold, by_hold}
 use Rattle.tables.specs.State.{State, span, marks}
 use Rattle.rules.specs.Lists.{range}
 use Rattle.tables.specs.Taking.{first_free, find_of, watch_of, deferred_by, deferred_upto, with_count, oldest_of, without_first, take_upto, take_ready, take_of, taken_of}
-use Rattle.tables.specs.Taking.{taken_memory, offered_of}
+use Rattle.tables.specs.Taking.{taken, taken_memory, offered_of}
 use Rattle.tables.proofs.memory.Cells.{span_nil, span_cons, take_sets, sets_store, sets_none}
 
 -- the search for a free token, with the tokens from i on left
-module _ {whole : Count} (free : ℕ → Hold) (i n : ℕ) (left : whole ≡ first_free free n (span i n)) where
-  pub find_end : n ≤ i → Count.Known n ≡ whole
+module _ {whole : Result ℕ TableError} (free : ℕ → Hold) (i n : ℕ) (left : whole ≡ first_free free n (span i n)) where
+  pub find_end : n ≤ i → Ok n ≡ whole
   unfolding first_free
   find_end h = sym (rw (span_nil i n h) at left)
 
-  pub find_step : {r v : Hold} → i < n → r ≡ free i → r ≡ v → whole ≡ by_hold v Count.Unknown (Count.Known i) (λ k. first_free free n (span (i + 1) n))
+  pub find_step : {r v : Hold} → i < n → r ≡ free i → r ≡ v → whole ≡ by_hold v (Err spoiled) (Ok i) (λ k. first_free free n (span (i + 1) n))
   unfolding first_free
   find_step h e v-is = rw (span_cons i n h, ← e, v-is) at left
 
 -- what is found lies between Count and N
-first_within : (free : ℕ → Hold) (n k : ℕ) {i u : ℕ} → n ≡ i + k → first_free free n (range i k) ≡ Count.Known u → (i ≤ u) × (u ≤ n)
+first_within : (free : ℕ → Hold) (n k : ℕ) {i u : ℕ} → n ≡ i + k → first_free free n (range i k) ≡ Ok u → (i ≤ u) × (u ≤ n)
 unfolding first_free range
 first_within free n zero {i} {u} e h = let u-is : n ≡ u = cc in omega arith
 first_within free n (suc k) {i} {u} e h = go (free i) (first_within free n k {i = suc i} {u = u} (omega arith)) h
   where
-    go : (x : Hold) → (first_free free n (range (suc i) k) ≡ Count.Known u → (suc i ≤ u) × (u ≤ n))
-        → by_hold x Count.Unknown (Count.Known i) (λ w. first_free free n (range (suc i) k)) ≡ Count.Known u → (i ≤ u) × (u ≤ n)
-    go Hold.Unsound later h = let z : ◌≡◌ {A = ℕ} 0 1 = cc in omega arith
-    go Hold.Free later h = let u-is : i ≡ u = cc in omega arith
-    go (Hold.By w) later h = let r = later h in omega (arith, r.0, r.1)
+    go : (x : Hold) → (first_free free n (range (suc i) k) ≡ Ok u → (suc i ≤ u) × (u ≤ n))
+        → by_hold x (Err spoiled) (Ok i) (λ w. first_free free n (range (suc i) k)) ≡ Ok u → (i ≤ u) × (u ≤ n)
+    go (Err e) later h = let z : ◌≡◌ {A = ℕ} 0 1 = cc in omega arith
+    go (Ok None) later h = let u-is : i ≡ u = cc in omega arith
+    go (Ok (Some w)) later h = let r = later h in omega (arith, r.0, r.1)
 
-pub found_within : (f : List ℕ) (tokens count : ℕ) {r : Count} {u : ℕ} → count ≤ tokens → r ≡ find_of f tokens count → r ≡ Count.Known u →
+pub found_within : (f : List ℕ) (tokens count : ℕ) {r : Result ℕ TableError} {u : ℕ} → count ≤ tokens → r ≡ find_of f tokens count → r ≡ Ok u →
     (count ≤ u) × (u ≤ tokens)
 unfolding find_of
 found_within f tokens count l e h = first_within (new_hold f count) tokens (tokens - count) (omega arith) (sym e ∙ h)
 
 -- what a code's answer and memory are to be, for an outcome
-abbrev pub Gives : List ℕ → Outcome State → Taken → List ℕ → Type 0
+abbrev pub Gives : List ℕ → Outcome State → Result Taken TableError → List ℕ → Type 0
 Gives m o r m' = (r ≡ taken_of o) × (m' ≡ taken_memory m o)
 
 module _ (t : Tables) (m : List ℕ) where
   -- taking up to a token: the table is full, there is a token, or none
   module _ (upto : ℕ) where
-    full_is : 4096 < t.held + (upto - t.count) → take_upto t m (Count.Known upto) ≡ Spoiled
+    full_is : 4096 < t.held + (upto - t.count) → take_upto t m (Ok upto) ≡ Spoiled
     unfolding take_upto
     full_is h = rw (lt-leb (t.held + (upto - t.count)) 4096 h)
 
-    pub upto_full : 4096 < t.held + (upto - t.count) → Gives m (take_upto t m (Count.Known upto)) Taken.Spoiled m
+    pub upto_full : 4096 < t.held + (upto - t.count) → Gives m (take_upto t m (Ok upto)) (Err spoiled) m
     unfolding taken_of taken_memory
     upto_full h = rw (full_is h) (refl, refl)
 
-    pub offer_full : 4096 < t.held + (upto - t.count) → Offer.Spoiled ≡ offered_of (take_upto t m (Count.Known upto))
+    pub offer_full : 4096 < t.held + (upto - t.count) → Err spoiled ≡ offered_of (take_upto t m (Ok upto))
     unfolding offered_of
     offer_full h = rw (full_is h)
 
     module _ (room : t.held + (upto - t.count) ≤ 4096) where
-      token_is : upto < t.tokens → take_upto t m (Count.Known upto) ≡ Took upto (with_count t upto (upto + 1), deferred_upto t upto m)
+      token_is : upto < t.tokens → take_upto t m (Ok upto) ≡ Took upto (with_count t upto (upto + 1), deferred_upto t upto m)
       unfolding take_upto
       token_is h = rw (le-leb (t.held + (upto - t.count)) 4096 room, lt-ltb upto t.tokens h)
 
-      none_is : t.tokens ≤ upto → take_upto t m (Count.Known upto) ≡ Nothing (with_count t upto upto, deferred_upto t upto m)
+      none_is : t.tokens ≤ upto → take_upto t m (Ok upto) ≡ Nothing (with_count t upto upto, deferred_upto t upto m)
       unfolding take_upto
       none_is h = rw (le-leb (t.held + (upto - t.count)) 4096 room, le-ltb upto t.tokens h)
 
-      pub offer_token : upto < t.tokens → Offer.Token upto ≡ offered_of (take_upto t m (Count.Known upto))
+      pub offer_token : upto < t.tokens → Ok (Some upto) ≡ offered_of (take_upto t m (Ok upto))
       unfolding offered_of
       offer_token h = rw (token_is h)
 
-      pub offer_none : t.tokens ≤ upto → Offer.Nothing ≡ offered_of (take_upto t m (Count.Known upto))
+      pub offer_none : t.tokens ≤ upto → Ok None ≡ offered_of (take_upto t m (Ok upto))
       unfolding offered_of
       offer_none h = rw (none_is h)
 
       module _ {m' : List ℕ} (deferred : m' ≡ deferred_by m t.held (span t.count upto) (map (watch_of (take 20480 m) t.count) (span t.count upto))) where
-        pub upto_took : upto < t.tokens → Gives m (take_upto t m (Count.Known upto)) (Taken.Took upto (with_count t upto (upto + 1))) m'
+        pub upto_took : upto < t.tokens → Gives m (take_upto t m (Ok upto)) (Ok (taken (Some upto) (with_count t upto (upto + 1)))) m'
         unfolding taken_of taken_memory deferred_upto
         upto_took h = rw (token_is h) (refl, deferred)
 
-        pub upto_none : t.tokens ≤ upto → Gives m (take_upto t m (Count.Known upto)) (Taken.Nothing (with_count t upto upto)) m'
+        pub upto_none : t.tokens ≤ upto → Gives m (take_upto t m (Ok upto)) (Ok (taken None (with_count t upto upto))) m'
         unfolding taken_of taken_memory deferred_upto
         upto_none h = rw (none_is h) (refl, deferred)
 
   -- a record on the way was bad
-  pub upto_bad : Gives m (take_upto t m Count.Unknown) Taken.Spoiled m
+  pub upto_bad : Gives m (take_upto t m (Err spoiled)) (Err spoiled) m
   unfolding take_upto taken_of taken_memory
   upto_bad = (refl, refl)
 
-  pub offer_unknown : Offer.Spoiled ≡ offered_of (take_upto t m Count.Unknown)
+  pub offer_unknown : Err spoiled ≡ offered_of (take_upto t m (Err spoiled))
   unfolding take_upto offered_of
   offer_unknown = refl
 
@@ -106,18 +105,18 @@ module _ (t : Tables) (m : List ℕ) where
   unfolding take_of
   first_is h = rw (lt-ltb t.first t.end h)
 
-  new_is : {x y : Count} → t.end ≤ t.first → x ≡ find_of (take 20480 m) t.tokens t.count → x ≡ y → take_of t m ≡ take_upto t m y
+  new_is : {x y : Result ℕ TableError} → t.end ≤ t.first → x ≡ find_of (take 20480 m) t.tokens t.count → x ≡ y → take_of t m ≡ take_upto t m y
   unfolding take_of
   new_is h e y-is = rw (le-ltb t.first t.end h, ← e, y-is)
 
-  pub take_first : {r : Taken} {m' : List ℕ} → t.first < t.end → Gives m (take_ready t m (oldest_of t m)) r m' → Gives m (take_of t m) r m'
+  pub take_first : {r : Result Taken TableError} {m' : List ℕ} → t.first < t.end → Gives m (take_ready t m (oldest_of t m)) r m' → Gives m (take_of t m) r m'
   take_first h g = rw (first_is h) g
 
-  pub take_new_lem : {r : Taken} {m' : List ℕ} {x y : Count} → t.end ≤ t.first → x ≡ find_of (take 20480 m) t.tokens t.count → x ≡ y →
+  pub take_new_lem : {r : Result Taken TableError} {m' : List ℕ} {x y : Result ℕ TableError} → t.end ≤ t.first → x ≡ find_of (take 20480 m) t.tokens t.count → x ≡ y →
       Gives m (take_upto t m y) r m' → Gives m (take_of t m) r m'
   take_new_lem h e y-is g = rw (new_is h e y-is) g
 
-  pub offer_new : {r : Offer} {x y : Count} → t.end ≤ t.first → x ≡ find_of (take 20480 m) t.tokens t.count → x ≡ y →
+  pub offer_new : {r : Result (Option ℕ) TableError} {x y : Result ℕ TableError} → t.end ≤ t.first → x ≡ find_of (take 20480 m) t.tokens t.count → x ≡ y →
       r ≡ offered_of (take_upto t m y) → r ≡ offered_of (take_of t m)
   offer_new h e y-is g = rw (new_is h e y-is) g
 
@@ -131,20 +130,20 @@ module _ (t : Tables) (m : List ℕ) where
     unfolding take_ready
     good_is h = rw (← oldest-is, lt-ltb token t.tokens h)
 
-    pub ready_bad : t.tokens ≤ token → Gives m (take_ready t m (oldest_of t m)) Taken.Spoiled m
+    pub ready_bad : t.tokens ≤ token → Gives m (take_ready t m (oldest_of t m)) (Err spoiled) m
     unfolding taken_of taken_memory
     ready_bad h = rw (bad_is h) (refl, refl)
 
     pub ready_took : {at : ℕ} → at ≡ token → token < t.tokens →
-        Gives m (take_ready t m (oldest_of t m)) (Taken.Took token (without_first t)) (set m (standing_at + at) 0)
+        Gives m (take_ready t m (oldest_of t m)) (Ok (taken (Some token) (without_first t))) (set m (standing_at + at) 0)
     unfolding taken_of taken_memory
     ready_took at-is h = rw (good_is h, at-is) (refl, refl)
 
-    pub offer_ready : t.first < t.end → token < t.tokens → Offer.Token token ≡ offered_of (take_of t m)
+    pub offer_ready : t.first < t.end → token < t.tokens → Ok (Some token) ≡ offered_of (take_of t m)
     unfolding offered_of
     offer_ready h k = rw (first_is h, good_is k)
 
-    pub offer_bad : t.first < t.end → t.tokens ≤ token → Offer.Spoiled ≡ offered_of (take_of t m)
+    pub offer_bad : t.first < t.end → t.tokens ≤ token → Err spoiled ≡ offered_of (take_of t m)
     unfolding offered_of
     offer_bad h k = rw (first_is h, bad_is k)
 

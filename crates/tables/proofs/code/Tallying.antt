@@ -5,10 +5,9 @@ use mathlib.Core.List.{List}
 use Prim.Native.Nat.{ℕ, ◌+◌, ◌<◌, ◌≤◌}
 use native.Mathlib.Omega.{arith}
 use lib.ListN.{length, get_or, take}
-use Rattle.tables.specs.declared.Hold.{Hold}
-use Rattle.tables.specs.declared.Tally.{Tally}
-use Rattle.tables.specs.Facts.{left_hold}
-use Rattle.tables.specs.Releasing.{sifted_from, tally_of, Unwatched}
+use Rattle.std.specs.Prelude.{Some, None, Ok, Err}
+use Rattle.tables.specs.Facts.{Hold, spoiled, left_hold}
+use Rattle.tables.specs.Releasing.{sifted_from, tally, tally_of, Unwatched}
 use Rattle.tables.proofs.code.ScanLaws.{Next}
 use Rattle.tables.proofs.code.SiftLaws.{watchers_skip, first_skip}
 use Rattle.tables.proofs.code.ReleasingLaws.{tally_from, tally_first, tally_end, tally_bad, tally_free, tally_by}
@@ -30,7 +29,7 @@ module _ {m : List ℕ} {held : ℕ} (whole : 32768 ≤ length m) (most : held �
       }
 
   module _ {tokens d n k cell : ℕ} (inv : Tallying m tokens d held n k cell) where
-    pub tally_done : held ≤ cell → Tally.Known n k ≡ tally_of (left_hold (take 20480 m) tokens d) (sifted_from true m 20480 d 0 held)
+    pub tally_done : held ≤ cell → Ok (tally n k) ≡ tally_of (left_hold (take 20480 m) tokens d) (sifted_from true m 20480 d 0 held)
     tally_done h = tally_end (left_hold (take 20480 m) tokens d) d n k m cell held inv.left inv.upto h
 
     -- cells that do not watch the number are passed
@@ -44,10 +43,10 @@ module _ {m : List ℕ} {held : ℕ} (whole : 32768 ≤ length m) (most : held �
 
     -- one that does: by what still holds its token
     module _ (more : cell < held) (hit : get_or m (24576 + cell) 0 ≡ d) {r : Hold} (r-is : r ≡ left_hold (take 20480 m) tokens d (get_or m (20480 + cell) 0)) where
-      pub tally_unsound : r ≡ Hold.Unsound → Tally.Unsound ≡ tally_of (left_hold (take 20480 m) tokens d) (sifted_from true m 20480 d 0 held)
+      pub tally_unsound : r ≡ Err spoiled → Err spoiled ≡ tally_of (left_hold (take 20480 m) tokens d) (sifted_from true m 20480 d 0 held)
       tally_unsound e = tally_bad (left_hold (take 20480 m) tokens d) d n k m cell held inv.left more most whole hit r-is e
 
-      pub tally_woken : r ≡ Hold.Free → Tallying m tokens d held (n + 1) k (cell + 1)
+      pub tally_woken : r ≡ Ok None → Tallying m tokens d held (n + 1) k (cell + 1)
       tally_woken e =
           record {
             upto = omega arith;
@@ -55,7 +54,7 @@ module _ {m : List ℕ} {held : ℕ} (whole : 32768 ≤ length m) (most : held �
             left = tally_free (left_hold (take 20480 m) tokens d) d n k m cell held inv.left more most whole hit r-is e;
           }
 
-      pub tally_kept : {v : ℕ} → r ≡ Hold.By v → Tallying m tokens d held n (k + 1) (cell + 1)
+      pub tally_kept : {v : ℕ} → r ≡ Ok (Some v) → Tallying m tokens d held n (k + 1) (cell + 1)
       tally_kept e =
           record {
             upto = omega arith;

@@ -8,12 +8,12 @@ use borrow.Author.Tests.{lt-ltb, le-ltb, le-leb, eqb-true, eqb-false, ltb-true, 
 use lib.Dec.{leb, ltb, eqb}
 use lib.ListN.{length, get_or, take, drop, set, length-set, length-map}
 use lib.Seq.{take-set-le, drop-set-lt, sets, slice, slice-cons, length-slice, length-sets}
+use Rattle.std.specs.Prelude.{Ok}
 use Rattle.rules.specs.Lists.{if, has, times, range, Below}
 use Rattle.rules.specs.TakingTokens.{none, took, tokens_of, take_new, take_from}
 use Rattle.rules.specs.TakingTokens as rules
 use Rattle.rules.specs.Sources.{Taken as Outcome, Nothing, Took}
 use Rattle.tables.specs.declared.Tables.{Tables}
-use Rattle.tables.specs.declared.Count.{Count}
 use Rattle.tables.specs.Facts.{standing_of}
 use Rattle.tables.specs.State.{State, span, marks}
 use Rattle.tables.specs.Taking.{find_of, watch_of, deferred_by, deferred_upto, with_count, without_first, take_upto, take_ready, take_of}
@@ -275,11 +275,11 @@ module _ (tokens : ℕ) (numbers : ℕ → List ℕ) (a : rules.Tables) (t : Tab
         omega (arith, length-slice (28672 + t.first) (28672 + t.end) m (omega (arith, p.range.end, p.whole)), ap length (p.queue ∙ none_ready))
 
     -- the memory takes up to the same token
-    found : find_of (take 20480 m) t.tokens t.count ≡ Count.Known (a.count + k)
+    found : find_of (take 20480 m) t.tokens t.count ≡ Ok (a.count + k)
     unfolding find_of k
     found = ap₂ (λ n c. find_of (take 20480 m) n c) p.size p.count ∙ together.2
 
-    takes : take_of t m ≡ take_upto t m (Count.Known (a.count + k))
+    takes : take_of t m ≡ take_upto t m (Ok (a.count + k))
     unfolding take_of
     takes = rw (le-ltb t.first t.end queue_empty, found)
 

@@ -6,11 +6,11 @@ use Prim.Native.Nat.{ℕ, ◌+◌, ◌<◌, ◌≤◌}
 use native.Mathlib.Omega.{arith}
 use borrow.Author.Tests.{lt-leb, eq-eqb, ne_eqb, eqb-true, eqb-false, not-true}
 use lib.Dec.{eqb}
+use Rattle.std.specs.Prelude.{Ok}
 use Rattle.rules.specs.Lists.{if, keep, has, empty, times, Every, any, Below}
 use Rattle.rules.specs.TakingTokens.{Held, tokens_of, lose}
 use Rattle.rules.specs.TakingTokens as rules
-use Rattle.tables.specs.declared.Hold.{Hold}
-use Rattle.tables.specs.Facts.{standing_of, left_of, holds_of, last_of, hold_as, hold_of, left_hold}
+use Rattle.tables.specs.Facts.{Hold, standing_of, left_of, last_of, hold_as, hold_of, left_hold}
 use Rattle.tables.specs.Releasing.{is_unsound, pick, new_watch, new_watches}
 use Rattle.tables.specs.Matching.{Recorded, Waits, Watched, Standing, nobody, only}
 use Rattle.rules.proofs.lists.Tests.{if_same, if_eta, by_test}
@@ -35,8 +35,8 @@ module _ (f : List ℕ) (d : ℕ) where
 
   module _ (tokens : ℕ) where
     -- what still holds a token below N with a good record
-    hold_is : (t : ℕ) (ns : List ℕ) → t < tokens → Recorded f t ns → left_hold f tokens d t ≡ last_of (left_of f d) ns
-    unfolding left_hold hold_of hold_as holds_of
+    hold_is : (t : ℕ) (ns : List ℕ) → t < tokens → Recorded f t ns → left_hold f tokens d t ≡ Ok (last_of (left_of f d) ns)
+    unfolding left_hold hold_of hold_as
     hold_is t ns h r = rw (lt-leb tokens t h, r.2, r.3)
 
     -- a list that has a number is not empty

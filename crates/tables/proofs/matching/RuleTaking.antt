@@ -8,11 +8,11 @@ use native.Mathlib.Nat.{add-zero}
 use borrow.Author.Tests.{lt-ltb, le-ltb, le-leb, lt-leb, ne_eqb, ltb-true, ltb-false, leb-true, leb-false, eqb-true, eqb-false}
 use lib.Dec.{leb, ltb, eqb}
 use lib.Seq.{append_snoc}
+use Rattle.std.specs.Prelude.{Ok}
 use Rattle.rules.specs.Lists.{if, keep, has, times, Every, any, range}
 use Rattle.rules.specs.TakingTokens.{Held, Taken, none, took, tokens_of, is_due, raised, hold, take_new}
 use Rattle.rules.specs.TakingTokens as rules
-use Rattle.tables.specs.declared.Count.{Count}
-use Rattle.tables.specs.Facts.{standing_of, due_of, holds_of, last_of, hold_as, hold_of, new_hold}
+use Rattle.tables.specs.Facts.{standing_of, due_of, last_of, hold_as, hold_of, new_hold}
 use Rattle.tables.specs.Taking.{first_free, watch_of}
 use Rattle.tables.specs.Matching.{Recorded, Waits, Watched, Standing, nobody}
 use Rattle.rules.proofs.lists.Tests.{if_same, if_eta, bool_ext, by_test}
@@ -100,14 +100,14 @@ module _ (numbers : ℕ → List ℕ) (f : List ℕ) (c tokens : ℕ) where
   abbrev pub result : rules.Tables → ℕ → Taken
   result a k = if (ltb (a.count + k) tokens) (took (a.count + k) (after numbers f c a k (suc (a.count + k)))) (none (after numbers f c a k (a.count + k)))
 
-  hold_is : (t : ℕ) → Recorded f t (numbers t) → new_hold f c t ≡ last_of (due_of f c t) (numbers t)
-  unfolding new_hold hold_of hold_as holds_of
+  hold_is : (t : ℕ) → Recorded f t (numbers t) → new_hold f c t ≡ Ok (last_of (due_of f c t) (numbers t))
+  unfolding new_hold hold_of hold_as
   hold_is t r = rw (r.2, r.3)
 
   -- the rules and the search pass over the same k tokens, each with a number that is due, and give the same
   abbrev pub Together : ℕ → rules.Tables → Type 0
   Together left a =
-      (k : ℕ) × (k ≤ left) × (first_free (new_hold f c) tokens (range a.count left) ≡ Count.Known (a.count + k))
+      (k : ℕ) × (k ≤ left) × (first_free (new_hold f c) tokens (range a.count left) ≡ Ok (a.count + k))
       × (take_new numbers left a ≡ result a k) × AllDue numbers f c (range a.count k)
 
   -- the rules' table after the next token joins it
@@ -155,7 +155,7 @@ module _ (numbers : ℕ → List ℕ) (f : List ℕ) (c tokens : ℕ) where
   new_tokens zero a records p e = (
     0,
     omega arith,
-    ap Count.Known (omega arith),
+    ap Ok (omega arith),
     rw (append-nil a.deferred, add-zero a.count, le-ltb a.count tokens (omega arith)),
     tt,
   )

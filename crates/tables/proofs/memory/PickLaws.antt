@@ -7,10 +7,10 @@ use native.Mathlib.Omega.{arith}
 use lib.Dec.{eqb}
 use borrow.Author.Tests.{ne_eqb}
 use lib.ListN.{length, get_or}
+use Rattle.std.specs.Prelude.{Some, None, Ok, Err}
 use Rattle.rules.specs.Lists.{if, any, keep, Below}
 use Rattle.rules.proofs.lists.Tests.{by_test}
-use Rattle.tables.specs.declared.Hold.{Hold}
-use Rattle.tables.specs.Facts.{by_hold}
+use Rattle.tables.specs.Facts.{Hold, by_hold}
 use Rattle.tables.specs.Releasing.{is_free, is_held, is_unsound, pick, new_watch, new_watches}
 
 module _ (p : ℕ → Bool) where
@@ -71,9 +71,9 @@ module _ (hold : ℕ → Hold) (d : ℕ) where
       (λ q. rw q (ap (λ l. w ∷ l) (new_unheld ts ws (omega arith) (rw q at h))))
     where
       stays : (x : Hold) → is_held x ≡ false → by_hold x w w (λ n. n) ≡ w
-      stays Hold.Unsound h = refl
-      stays Hold.Free h = refl
-      stays (Hold.By n) h = absurd (true≢false h)
+      stays (Err x) h = refl
+      stays (Ok None) h = refl
+      stays (Ok (Some n)) h = absurd (true≢false h)
 
   -- a watch by what holds its token
   new_other : (t w : ℕ) → eqb w d ≡ false → new_watch hold d t w ≡ w
@@ -93,19 +93,19 @@ module _ (hold : ℕ → Hold) (d : ℕ) where
   new_free t w e = go (hold t)
     where
       go : (x : Hold) → is_free x ≡ true → eqb (if (eqb w d) (by_hold x w w (λ n. n)) w) d ≡ true
-      go Hold.Unsound h = absurd (true≢false (sym h))
-      go Hold.Free h = rw e e
-      go (Hold.By n) h = absurd (true≢false (sym h))
+      go (Err x) h = absurd (true≢false (sym h))
+      go (Ok None) h = rw e e
+      go (Ok (Some n)) h = absurd (true≢false (sym h))
 
-  module _ (other : (t n : ℕ) → hold t ≡ Hold.By n → eqb n d ≡ false) where
+  module _ (other : (t n : ℕ) → hold t ≡ Ok (Some n) → eqb n d ≡ false) where
     new_by : (t w : ℕ) → is_unsound (hold t) ≡ false → is_free (hold t) ≡ false → eqb w d ≡ true → eqb (new_watch hold d t w) d ≡ false
     unfolding new_watch
     new_by t w = go (hold t) refl
       where
         go : (x : Hold) → hold t ≡ x → is_unsound x ≡ false → is_free x ≡ false → eqb w d ≡ true → eqb (if (eqb w d) (by_hold x w w (λ n. n)) w) d ≡ false
-        go Hold.Unsound e u h q = absurd (true≢false u)
-        go Hold.Free e u h q = absurd (true≢false h)
-        go (Hold.By n) e u h q = rw q (other t n e)
+        go (Err x) e u h q = absurd (true≢false u)
+        go (Ok None) e u h q = absurd (true≢false h)
+        go (Ok (Some n)) e u h q = rw q (other t n e)
 
     -- of the tokens that watch this number, those that no other holds watch it still, where no record is bad
     pub still_watching : (ts ws : List ℕ) → any (λ t. is_unsound (hold t)) (pick (λ w. eqb w d) ts ws) ≡ false

@@ -8,12 +8,13 @@ use borrow.Author.Tests.{ltb-true, leb-true, leb-false}
 use lib.Dec.{leb, ltb, eqb}
 use lib.ListN.{length, drop, set, replicate, length-append, length-map, length-set, length-replicate, get_or-append}
 use lib.Seq.{sets, length-sets, set-append_left, take-append-le}
+use Rattle.std.specs.Prelude.{Result, Ok, Err}
 use Rattle.rules.specs.Lists.{any, has, Below}
 use Rattle.rules.specs.Sources.{Taken as Outcome, Spoiled, Nothing, Took, Released, Broken, Passed}
 use Rattle.rules.specs.RelatedSources.{map_taken, map_released, Follows}
 use Rattle.rules.proofs.lists.Tests.{by_test}
 use Rattle.tables.specs.declared.Tables.{Tables}
-use Rattle.tables.specs.declared.Count.{Count}
+use Rattle.tables.specs.declared.Spoiled.{Spoiled as TableError}
 use Rattle.tables.specs.Layout.{facts_of}
 use Rattle.tables.specs.Facts.{left_hold}
 use Rattle.tables.specs.State.{InRange, sound_of, span, marks, table_of, watches_of}
@@ -101,10 +102,10 @@ module _ (r : List ℕ) where
           ∙ ap (λ (l : List ℕ). marks l 1 passed) (sets_beyond watches joined (24576 + t.held) (omega arith))
           ∙ marks_beyond 1 passed entered (below_range 4096 t.count (upto - t.count) (omega (arith, ok.tokens, ok.count))) (omega arith)
 
-    upto_beyond : (c : Count) → find_of (facts_of m) t.tokens t.count ≡ c → take_upto t (m ++ r) c ≡ map_taken (beyond r) (take_upto t m c)
+    upto_beyond : (c : Result ℕ TableError) → find_of (facts_of m) t.tokens t.count ≡ c → take_upto t (m ++ r) c ≡ map_taken (beyond r) (take_upto t m c)
     unfolding take_upto
-    upto_beyond Count.Unknown found = refl
-    upto_beyond (Count.Known upto) found = by_test (leb (t.held + (upto - t.count)) 4096)
+    upto_beyond (Err e) found = refl
+    upto_beyond (Ok upto) found = by_test (leb (t.held + (upto - t.count)) 4096)
         (λ room.
         let high = found_within (facts_of m) t.tokens t.count ok.count (sym found) refl in
         rw (room, deferred_beyond upto high.1 (leb-true _ _ room)) (by_test (ltb upto t.tokens) (λ e. rw e) (λ e. rw e)))

@@ -5,10 +5,11 @@ use Prim.Native.Nat.{ℕ, ◌+◌, ◌-◌}
 use lib.Dec.{leb, ltb}
 use lib.ListN.{length, length-set}
 use lib.Seq.{length-sets}
+use Rattle.std.specs.Prelude.{Result, Ok, Err}
 use Rattle.rules.specs.RelatedSources.{OnTaken, OnReleased, Keeps}
 use Rattle.rules.proofs.lists.Tests.{by_test}
 use Rattle.tables.specs.declared.Tables.{Tables}
-use Rattle.tables.specs.declared.Count.{Count}
+use Rattle.tables.specs.declared.Spoiled.{Spoiled as TableError}
 use Rattle.tables.specs.Layout.{facts_of}
 use Rattle.tables.specs.State.{State, sound_of}
 use Rattle.tables.specs.Taking.{find_of, deferred_upto, oldest_of, take_upto, take_ready, take_of}
@@ -22,10 +23,10 @@ module _ (n : ℕ) where
   Long x = length x.1 ≡ n
 
   module _ (t : Tables) (m : List ℕ) (long : length m ≡ n) where
-    upto_length : (c : Count) → OnTaken Long (take_upto t m c)
+    upto_length : (c : Result ℕ TableError) → OnTaken Long (take_upto t m c)
     unfolding take_upto deferred_upto
-    upto_length Count.Unknown = tt
-    upto_length (Count.Known upto) = by_test (leb (t.held + (upto - t.count)) 4096)
+    upto_length (Err e) = tt
+    upto_length (Ok upto) = by_test (leb (t.held + (upto - t.count)) 4096)
         (λ room. rw room (by_test (ltb upto t.tokens) (λ e. rw e deferred) (λ e. rw e deferred)))
         (λ full. rw full tt)
       where
