@@ -1,40 +1,32 @@
 // Whether a run has ended.
-ghost use Rattle.std.specs.Prelude.{◌≡◌};
+ghost use Rattle.std.specs.Prelude.{◌≡◌, ◌<◌};
 ghost use Rattle.rules.specs.Lists.{every};
 ghost use Rattle.state.specs.Ending.{is_still, over_of};
 
 use crate::limits::{COUNTERS_OF_LINE, SLOTS};
 use vocabulary::Slots;
 
-// Whether no line can move: the numbers of each are within the tables, it waits, and its counter is above 0. The scan goes from
-// each line's row of counters to the next, and multiplies nothing.
-fn all_still(lines: u16, slots: Slots, counters: &[u8; 512]) -> bool
-    ensures { result ≡ every lines (is_still counters.now slots) }
+// Whether a line cannot move: its pipe is within the tables, it waits, and its counter is above 0.
+fn is_still(slots: &Slots, counters: &[u8; 512], l: usize) -> bool
+    requires { l < 32 }
+    ensures { result ≡ is_still counters.now slots.now l }
 {
-    let lines = lines as usize;
+    let pipe = usize::from(slots.at[l].0);
+    pipe < COUNTERS_OF_LINE && !slots.running[l] && counters[COUNTERS_OF_LINE * l + pipe] != 0
+}
+
+// Whether no line can move.
+fn all_still(lines: u16, slots: &Slots, counters: &[u8; 512]) -> bool
+    ensures { result ≡ every lines (is_still counters.now slots.now) }
+{
+    let lines = usize::from(lines);
     if SLOTS < lines {
         return false;
     }
-    // The two rows by themselves: were `slots` looked into, all five would be copied.
-    let at = slots.at;
-    let running = slots.running;
-    let mut l: usize = 0;
-    let mut row: usize = 0;
-    while l < lines {
-        let here = at[l];
-        let pipe = here.0 as usize;
-        if COUNTERS_OF_LINE <= pipe {
+    for l in 0..lines {
+        if !is_still(slots, counters, l) {
             return false;
         }
-        if running[l] {
-            return false;
-        }
-        let due = counters[row + pipe] == 0;
-        if due {
-            return false;
-        }
-        row += COUNTERS_OF_LINE;
-        l += 1;
     }
     true
 }
@@ -43,8 +35,5 @@ fn all_still(lines: u16, slots: Slots, counters: &[u8; 512]) -> bool
 pub fn is_over(stopped: bool, lines: u16, slots: Slots, counters: &[u8; 512]) -> bool
     ensures { result ≡ over_of stopped lines counters.now slots }
 {
-    if stopped {
-        return all_still(lines, slots, counters);
-    }
-    false
+    stopped && all_still(lines, &slots, counters)
 }

@@ -74,14 +74,13 @@ impl State {
         ensures { result ≡ figures_of self }
     {
         let serial = self.serial;
-        let t = self.tables;
         Figures {
             pipes: self.pipes,
             lines: self.lines,
             workers: self.workers,
             placed: self.placed,
             stopped: self.stopped,
-            tables: t,
+            tables: self.tables,
             serial,
         }
     }
@@ -92,6 +91,5 @@ pub fn ended(s: State) -> bool
     ensures answer { result ≡ ended_of s }
     ensures rules { (m : List ℕ) → sound_by memory_source (machine_of s m) ≡ true → result ≡ ended_by (machine_of s m) }
 {
-    let slots = s.slots();
-    is_over(s.stopped, s.lines, slots, &s.counters)
+    is_over(s.stopped, s.lines, s.slots(), &s.counters)
 }

@@ -7,6 +7,6 @@ pub returns-then-stopped : goal.returns-then-stopped
 unfolding over_of
 returns-then-stopped c = search tests depth 8
 
-pub returns : goal.returns
+pub returns-else-stopped : goal.returns-else-stopped
 unfolding over_of
-returns c = search tests depth 8
+returns-else-stopped c = search tests depth 8
