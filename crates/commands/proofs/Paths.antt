@@ -17,7 +17,7 @@ use Rattle.words.specs.declared.ShortNumber.TheVariants.{Value, Missing}
 use Rattle.commands.specs.Commands.{figures_word, sum_word, ended_word, quit_word, plan_word, open_word, choose_word, offer_word, take_word, mark_word, started_word, finished_word, stopped_word, numbered, chosen, stepped, halted, alone_of, is_path, plan_of, plain_of, rounded_at, rounded_of, open_of, choose_of, offer_of, started_of, finished_of, stopped_of, event_of, take_of, mark_of, arguments_of, command_of}
 use Rattle.commands.specs.Arguments.{space, words_in, pair_in, step_in}
 use Rattle.commands.proofs.Arguments.{rest_at}
-use Rattle.vocabulary.specs.declared.answer.Step.{Step}
+use Rattle.vocabulary.specs.declared.event.Step.{Step}
 use Rattle.vocabulary.specs.declared.event.Event.{Event}
 use Rattle.commands.specs.declared.numbers.Pair as pair
 use Rattle.commands.specs.declared.numbers.StepNumbers as step

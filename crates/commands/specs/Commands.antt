@@ -5,7 +5,7 @@ use Rattle.words.specs.Words.{up_to, past, same}
 use Rattle.words.specs.Numbers.{short_of}
 use Rattle.words.specs.declared.ShortNumber.{ShortNumber}
 use Rattle.words.specs.declared.ShortNumber.TheVariants.{Value, Missing}
-use Rattle.vocabulary.specs.declared.answer.Step.{Step}
+use Rattle.vocabulary.specs.declared.event.Step.{Step}
 use Rattle.vocabulary.specs.declared.event.Event.{Event}
 use Rattle.commands.specs.declared.numbers.Pair as pair
 use Rattle.commands.specs.declared.numbers.StepNumbers as step

@@ -8,7 +8,7 @@ use Rattle.rules.specs.Choices as rules
 use Rattle.rules.specs.Answers.{answer_of}
 use Rattle.vocabulary.specs.Refusals.{number_of}
 use Rattle.vocabulary.specs.declared.answer.Answer.{Answer}
-use Rattle.vocabulary.specs.declared.answer.Step.{Step}
+use Rattle.vocabulary.specs.declared.event.Step.{Step}
 use Rattle.vocabulary.specs.declared.refusal.Refusal.{Refusal}
 use Rattle.engine.specs.declared.Chosen.{Chosen}
 use Rattle.engine.specs.Machines.{chosen_of}

@@ -6,7 +6,7 @@ use Rattle.vocabulary.specs.declared.Worker.{Worker}
 use Rattle.vocabulary.specs.declared.Slot.{Slot}
 use Rattle.vocabulary.specs.declared.Slots.{Slots}
 use Rattle.vocabulary.specs.declared.answer.Answer.{Answer}
-use Rattle.vocabulary.specs.declared.answer.Step.{Step}
+use Rattle.vocabulary.specs.declared.event.Step.{Step}
 use Rattle.rules.specs.RunState.{Machine, waits, slot_at, put_slot, counter_at, slot_of, full}
 use Rattle.rules.specs.Choices.{Chosen, Finished, next, moved, with_place, start_first}
 use Rattle.rules.specs.Answers.{answer_of}

@@ -9,8 +9,8 @@ use lib.Seq.{drop-cons, drop-length}
 use Rattle.io.specs.Digits.{last_digits, IsDigitCount}
 use Rattle.rules.specs.Answers.{answer_of}
 use Rattle.vocabulary.specs.Refusals.{number_of}
-use Rattle.vocabulary.specs.declared.answer.Step.{Step}
-use Rattle.vocabulary.specs.declared.answer.Stop.{Stop}
+use Rattle.vocabulary.specs.declared.event.Step.{Step}
+use Rattle.vocabulary.specs.declared.event.Stop.{Stop}
 use Rattle.vocabulary.specs.declared.answer.Answer.{Answer}
 use Rattle.vocabulary.specs.declared.refusal.Refusal.{Refusal}
 use Rattle.sink.specs.Sinks.{Output, put_of, put_each}

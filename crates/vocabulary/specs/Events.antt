@@ -1,8 +1,8 @@
 -- Events as values (02, 2.3), and as records of numbers (02, 2.6).
 use Rattle.std.specs.Prelude.{Bool, false, ℕ, eqb}
 use Rattle.vocabulary.specs.Branches.{if}
-use Rattle.vocabulary.specs.declared.answer.Step.{Step}
-use Rattle.vocabulary.specs.declared.answer.Stop.{Stop}
+use Rattle.vocabulary.specs.declared.event.Step.{Step}
+use Rattle.vocabulary.specs.declared.event.Stop.{Stop}
 use Rattle.vocabulary.specs.declared.event.Event.{Event}
 use Rattle.vocabulary.specs.declared.event.Event.TheVariants.{Started, Finished, Stopped}
 use Rattle.vocabulary.specs.declared.event.EventRecord.{EventRecord}

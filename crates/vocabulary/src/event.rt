@@ -1,10 +1,28 @@
-// Events as values: what an accepted choice answers.
+// Events: what an accepted choice answers. (A choice answers `Result<Event, Refusal>`; `answer_of` of the rules, specs/Answers.antt, sets out
+// the paper's values for each case.)
 ghost use Rattle.std.specs.Prelude.{◌≡◌};
 ghost use Rattle.vocabulary.specs.Events.{step_record, event_record, same_record};
 
-use crate::{Step, Stop};
+use crate::{Line, Pipe, Place, Token, Worker};
 
-#[derive(Clone, Copy)]
+// A start or a finish: which line, at which pipe, with which token and place, and by which worker.
+#[derive(Clone, Copy, PartialEq, Eq)]
+pub struct Step {
+    pub line: Line,
+    pub pipe: Pipe,
+    pub token: Token,
+    pub place: Place,
+    pub worker: Worker,
+}
+
+// A stop: which line, and by which worker.
+#[derive(Clone, Copy, PartialEq, Eq)]
+pub struct Stop {
+    pub line: Line,
+    pub worker: Worker,
+}
+
+#[derive(Clone, Copy, PartialEq, Eq)]
 pub enum Event {
     Started(Step),
     Finished(Step),
@@ -13,7 +31,7 @@ pub enum Event {
 
 // An event as numbers: its kind, the program's letter as a byte, and its line, pipe, token, place and worker. A stop has 0 in
 // pipe, token and place.
-#[derive(Clone, Copy)]
+#[derive(Clone, Copy, PartialEq, Eq)]
 pub struct EventRecord {
     pub kind: u8,
     pub line: u16,
@@ -50,22 +68,7 @@ impl EventRecord {
     pub fn same(self, other: EventRecord) -> bool
         ensures { result ≡ same_record self other }
     {
-        if self.kind != other.kind {
-            return false;
-        }
-        if self.line != other.line {
-            return false;
-        }
-        if self.pipe != other.pipe {
-            return false;
-        }
-        if self.token != other.token {
-            return false;
-        }
-        if self.place != other.place {
-            return false;
-        }
-        self.worker == other.worker
+        self == other
     }
 }
 

@@ -2,17 +2,12 @@
 ghost use Rattle.std.specs.Prelude.{◌≡◌};
 ghost use Rattle.vocabulary.specs.PipeKinds.{full_of, kind_if, pipe_of};
 
-#[derive(Clone, Copy)]
+use crate::Refusal;
+
+#[derive(Clone, Copy, PartialEq, Eq)]
 pub enum PipeKind {
     Serial,
     Parallel,
-}
-
-// What a file byte says of a pipe.
-#[derive(Clone, Copy)]
-pub enum PipeByte {
-    Known(PipeKind),
-    Unknown,
 }
 
 impl PipeKind {
@@ -36,26 +31,28 @@ impl PipeKind {
         }
     }
 
-    // The kind of a pipe that is serial, or is not.
+    // The kind of a pipe that is serial, or is not. (No `From<bool>`: the name says what a flag that is set means.)
     pub fn from_flag(serial: bool) -> PipeKind
         ensures { result ≡ kind_if serial }
     {
-        if serial {
-            return PipeKind::Serial;
+        match serial {
+            true => PipeKind::Serial,
+            false => PipeKind::Parallel,
         }
-        PipeKind::Parallel
     }
+}
+
+impl TryFrom<u8> for PipeKind {
+    type Error = Refusal;
+
+    ghost try_from_gives = { λ byte kind. kind ≡ pipe_of byte };
 
     // The kind that a file byte stands for.
-    pub fn from_byte(byte: u8) -> PipeByte
-        ensures { result ≡ pipe_of byte }
-    {
-        if byte == PipeKind::SERIAL_BYTE {
-            return PipeByte::Known(PipeKind::Serial);
+    fn try_from(byte: u8) -> Result<Self, Refusal> {
+        match byte {
+            PipeKind::SERIAL_BYTE => Ok(PipeKind::Serial),
+            PipeKind::PARALLEL_BYTE => Ok(PipeKind::Parallel),
+            _ => Err(Refusal::Pipes),
         }
-        if byte == PipeKind::PARALLEL_BYTE {
-            return PipeByte::Known(PipeKind::Parallel);
-        }
-        PipeByte::Unknown
     }
 }

@@ -8,8 +8,8 @@ use Rattle.rules.specs.Answers.{answer_of}
 use Rattle.vocabulary.specs.Refusals.{number_of}
 use Rattle.rules.specs.Choices as rules
 use Rattle.rules.specs.Choices.{choices_in, choose, answers, follow}
-use Rattle.vocabulary.specs.declared.answer.Step.{Step}
-use Rattle.vocabulary.specs.declared.answer.Stop.{Stop}
+use Rattle.vocabulary.specs.declared.event.Step.{Step}
+use Rattle.vocabulary.specs.declared.event.Stop.{Stop}
 use Rattle.vocabulary.specs.declared.answer.Answer.{Answer}
 use Rattle.vocabulary.specs.declared.refusal.Refusal.{Refusal}
 use Rattle.tables.specs.State as tables
