@@ -17,12 +17,11 @@ fn find(mem: &[u16], tokens: u16, count: u16) -> Count
     requires count_le_tokens { (count ≤ tokens) × (tokens ≤ most_tokens) }
     ensures { result ≡ find_of (facts_of mem.now) tokens count }
 {
-    let mut token = count;
-    while token < tokens {
+    for token in count..tokens {
         match new_hold(mem, count, token) {
             Hold::Unsound => return Count::Unknown,
             Hold::Free => return Count::Known(token),
-            Hold::By(_) => token += 1,
+            Hold::By(_) => {}
         }
     }
     Count::Known(tokens)
@@ -33,12 +32,8 @@ fn enter(mem: &mut [u16], at: usize, from: u16, to: u16)
     requires { (from ≤ to) × (at + (to - from) ≤ length mem.old) }
     ensures { mem.new ≡ sets mem.old at (span from to) }
 {
-    let mut cell = at;
-    let mut token = from;
-    while token < to {
-        mem[cell] = token;
-        cell += 1;
-        token += 1;
+    for token in from..to {
+        mem[at + usize::from(token - from)] = token;
     }
 }
 
@@ -60,13 +55,8 @@ fn enter_watches(mem: &mut [u16], at: usize, count: u16, to: u16)
     requires watches_at_le_at { (watches_at ≤ at) × ((at + (to - count) ≤ lent) × (lent ≤ length mem.old)) }
     ensures { mem.new ≡ sets mem.old at (map (watch_of (facts_of mem.old) count) (span count to)) }
 {
-    let mut cell = at;
-    let mut token = count;
-    while token < to {
-        let number = watch(mem, count, token);
-        mem[cell] = number;
-        cell += 1;
-        token += 1;
+    for token in count..to {
+        mem[at + usize::from(token - count)] = watch(mem, count, token);
     }
 }
 
@@ -76,11 +66,7 @@ fn mark_deferred(mem: &mut [u16], from: u16, to: u16)
     requires deferred_at_in_bounds { deferred_at ≤ length mem.old }
     ensures { mem.new ≡ marks mem.old deferred_mark (span from to) }
 {
-    let mut token = from;
-    while token < to {
-        mem[STANDINGS + (token as usize)] = DEFERRED_MARK;
-        token += 1;
-    }
+    mem[STANDINGS + usize::from(from)..STANDINGS + usize::from(to)].fill(DEFERRED_MARK);
 }
 
 // Defers the tokens from Count up to `upto`. Their watches go by the standings as they were, so these are changed last.
@@ -89,8 +75,8 @@ fn defer(mem: &mut [u16], count: u16, held: u16, upto: u16)
     requires count_bound { (held + (upto - count) ≤ most_tokens) × (lent ≤ length mem.old) }
     ensures { mem.new ≡ deferred_by mem.old held (span count upto) (map (watch_of (facts_of mem.old) count) (span count upto)) }
 {
-    enter(mem, DEFERRED + (held as usize), count, upto);
-    enter_watches(mem, WATCHES + (held as usize), count, upto);
+    enter(mem, DEFERRED + usize::from(held), count, upto);
+    enter_watches(mem, WATCHES + usize::from(held), count, upto);
     mark_deferred(mem, count, upto);
 }
 
@@ -112,20 +98,16 @@ fn take_upto(mem: &mut [u16], t: Tables, upto: u16) -> Taken
         return Taken::Took(
             upto,
             Tables {
-                tokens: t.tokens,
                 count: upto + 1,
-                first: t.first,
-                end: t.end,
                 held,
+                ..t
             },
         );
     }
     Taken::Nothing(Tables {
-        tokens: t.tokens,
         count: upto,
-        first: t.first,
-        end: t.end,
         held,
+        ..t
     })
 }
 
@@ -137,19 +119,16 @@ fn take_ready(mem: &mut [u16], t: Tables) -> Taken
     ensures answer { result ≡ taken_of (take_ready t mem.old (oldest_of t mem.old)) }
     ensures memory { mem.new ≡ taken_memory mem.old (take_ready t mem.old (oldest_of t mem.old)) }
 {
-    let token = mem[READY + (t.first as usize)];
+    let token = mem[READY + usize::from(t.first)];
     if t.tokens <= token {
         return Taken::Spoiled;
     }
-    mem[STANDINGS + (token as usize)] = NO_MARK;
+    mem[STANDINGS + usize::from(token)] = NO_MARK;
     Taken::Took(
         token,
         Tables {
-            tokens: t.tokens,
-            count: t.count,
             first: t.first + 1,
-            end: t.end,
-            held: t.held,
+            ..t
         },
     )
 }
@@ -177,7 +156,7 @@ pub(crate) fn would_take(mem: &[u16], t: Tables) -> Offer
     ensures { result ≡ offered_of (take_of t mem.now) }
 {
     if t.first < t.end {
-        let token = mem[READY + (t.first as usize)];
+        let token = mem[READY + usize::from(t.first)];
         if token < t.tokens {
             return Offer::Token(token);
         }

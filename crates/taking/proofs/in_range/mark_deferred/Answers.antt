@@ -1,16 +1,8 @@
-use Rattle.std.proofs.Common.{rules, refl, sym, ◌∙◌, length-set}
-use Rattle.tables.proofs.memory.Cells as laws
+use Rattle.std.proofs.Common.{ap, ◌+◌, arith}
+use Rattle.taking.proofs.Filling.{filled}
 use Rattle.taking.proofs.in_range.mark_deferred.Goals as goal
 
-pub loop-token-init : goal.loop-token-init
-loop-token-init c = (search rules, refl, refl)
-
-pub loop-token-preserved : goal.loop-token-preserved
-loop-token-preserved c = (
-  search rules,
-  simp length-set c.loop-token.invariant.1,
-  c.loop-token.invariant.2 ∙ laws.marks_next _ _ _ _ c.loop-token-test.true refl,
-)
-
 pub returns : goal.returns
-returns c = sym (c.loop-token.invariant.2 ∙ laws.marks_done _ _ _ _ c.loop-token-test.false)
+returns c =
+    filled c.args.mem.now 1 c.args.from c.args.to c.requires.from_le_to.0 (ap (λ k. 16384 + k) c.from.ensures) (ap (λ k. 16384 + k) c.from-2.ensures)
+    (omega (arith, c.from-2.ensures)) (c.fill.ensures.after (λ y e. e))

@@ -1,12 +1,12 @@
-use Rattle.std.proofs.Common.{refl}
+use Rattle.std.proofs.Common.{◌+◌, ap, slice_index_or}
 use Rattle.tables.proofs.code.TakingLaws as laws
 use Rattle.taking.proofs.in_range.would_take.Goals as goal
 
 pub returns-then-token-t : goal.returns-then-token-t
-returns-then-token-t c = laws.offer_ready c.args.t c.args.mem.now refl c.if-t.true c.if-token-t.true
+returns-then-token-t c = laws.offer_ready c.args.t c.args.mem.now (ap (λ k. slice_index_or c.args.mem.now (28672 + k) 0) c.from.ensures) c.if-t.true c.if-token-t.true
 
 pub returns-then-t : goal.returns-then-t
-returns-then-t c = laws.offer_bad c.args.t c.args.mem.now refl c.if-t.true c.if-token-t.false
+returns-then-t c = laws.offer_bad c.args.t c.args.mem.now (ap (λ k. slice_index_or c.args.mem.now (28672 + k) 0) c.from.ensures) c.if-t.true c.if-token-t.false
 
 pub returns-in_default : goal.returns-in_default
 returns-in_default c =

@@ -1,0 +1,2 @@
+-- The proofs of taking: what a fill of standings is.
+mod Filling
