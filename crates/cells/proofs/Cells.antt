@@ -1,119 +1,54 @@
--- The cells of a file, one a turn.
+-- The cells of a file are its whole four-byte numbers, one a turn.
 use mathlib.Core.Path.{◌≡◌, refl, sym, ap, ◌∙◌}
-use mathlib.Core.List.{List, [], ◌∷◌, ◌++◌}
-use Prim.Native.Nat.{ℕ, zero, suc, ◌+◌, ◌-◌, ◌*◌, ◌≤◌, ◌<◌}
+use mathlib.Core.List.{List, [], ◌∷◌, ◌++◌, map, append_assoc}
+use Prim.Native.Nat.{ℕ, zero, suc, ◌+◌, ◌*◌, ◌/◌, ◌<◌, min}
 use native.Mathlib.Omega.{arith}
 use native.Mathlib.Numerals.{add-one}
-use lib.ListN.{length, get_or, take, drop, set, length-drop, length-set}
-use lib.Seq.{sets, sets-eq, drop-cons}
-use Rattle.fields.specs.Bytes.{field_in}
-use Rattle.fields.proofs.Fields.{field_inside}
-use Rattle.cells.specs.Cells.{cell_at, cells_in}
+use lib.ListN.{length, get_or, take, drop, set}
+use lib.Seq.{drop-cons, set_at}
+use mir.Syntax.{w32}
+use Rattle.std.specs.Int.{from_le_bytes}
+use Rattle.std.specs.Simd.{first_chunks}
+use Rattle.std.proofs.lemmas.List.{take_min, take_more, length-take-le, length-map, length-take, get_or-take, get_or-map}
+use Rattle.cells.specs.Cells.{cells_in}
 
--- a cell is two fields
-pub two_fields : (s : List ℕ) (i : ℕ) {low high : ℕ} → i + 3 < length s → low ≡ field_in s i → high ≡ field_in s (i + 2) → low + high * 65536 ≡ cell_at s i
-two_fields s i h low-is high_is =
-    let third : i + 2 + 1 ≡ i + 3 = omega arith in
-    let l = field_inside s i (omega arith) low-is in
-    let u = field_inside s (i + 2) (omega arith) high_is ∙ ap (λ k. get_or s (i + 2) 0 + get_or s k 0 * 256) third in
-    omega arith
-
--- fewer than four bytes hold no cell
-few_bytes : (s : List ℕ) → length s ≤ 3 → cells_in s ≡ []
+-- the cells are the numbers of the chunks of four bytes
+chunked : (n : ℕ) (s : List ℕ) → length s / 4 ≡ n → cells_in s ≡ map (from_le_bytes w32) (first_chunks 4 n s)
 unfolding cells_in
-few_bytes [] h = refl
-few_bytes (a ∷ []) h = refl
-few_bytes (a ∷ b ∷ []) h = refl
-few_bytes (a ∷ b ∷ c ∷ []) h = refl
-few_bytes (a ∷ b ∷ c ∷ d ∷ s) h = absurd (omega arith)
+chunked zero [] e = refl
+chunked zero (a ∷ []) e = refl
+chunked zero (a ∷ b ∷ []) e = refl
+chunked zero (a ∷ b ∷ c ∷ []) e = refl
+chunked zero (a ∷ b ∷ c ∷ d ∷ s) e = absurd (omega arith)
+chunked (suc n) [] e = absurd (omega arith)
+chunked (suc n) (a ∷ []) e = absurd (omega arith)
+chunked (suc n) (a ∷ b ∷ []) e = absurd (omega arith)
+chunked (suc n) (a ∷ b ∷ c ∷ []) e = absurd (omega arith)
+chunked (suc n) (a ∷ b ∷ c ∷ d ∷ s) e =
+    let first : a + 256 * b + 65536 * c + 16777216 * d ≡ from_le_bytes w32 (a ∷ b ∷ c ∷ d ∷ []) = omega arith in
+    rw (first, chunked n s (omega arith))
 
--- the first of some bytes' cells
-first_cell : (a b c d : ℕ) (s : List ℕ) → cells_in (a ∷ b ∷ c ∷ d ∷ s) ≡ (a + 256 * b + 65536 * c + 16777216 * d) ∷ cells_in s
-unfolding cells_in
-first_cell a b c d s = refl
+module _ (s : List ℕ) {chunks : List (List ℕ)} (e : chunks ≡ first_chunks 4 (length s / 4) s) where
+  cells_are : cells_in s ≡ map (from_le_bytes w32) chunks
+  cells_are = chunked (length s / 4) s refl ∙ ap (map (from_le_bytes w32)) (sym e)
 
-four_bytes : (s : List ℕ) (i : ℕ) → i + 3 < length s → drop i s ≡ get_or s i 0 ∷ get_or s (i + 1) 0 ∷ get_or s (i + 2) 0 ∷ get_or s (i + 3) 0 ∷ drop (i + 4) s
-four_bytes s i h =
-    let one : i + 1 ≡ suc i = omega arith in
-    let two : i + 2 ≡ suc (suc i) = omega arith in
-    let three : i + 3 ≡ suc (suc (suc i)) = omega arith in
-    let four : i + 4 ≡ suc (suc (suc (suc i))) = omega arith in
-    rw (
-      one,
-      two,
-      three,
-      four,
-      drop-cons s i 0 (omega arith),
-      drop-cons s (suc i) 0 (omega arith),
-      drop-cons s (suc (suc i)) 0 (omega arith),
-      drop-cons s (suc (suc (suc i))) 0 (omega arith),
-    )
+  pub cells_count : length (cells_in s) ≡ length chunks
+  cells_count = ap length cells_are ∙ length-map chunks (from_le_bytes w32)
 
--- none of no cells
-take_none : (n : ℕ) → take {A = ℕ} n [] ≡ []
-take_none zero = refl
-take_none (suc n) = refl
+  pub cell_is : (n i : ℕ) → i < length (take n chunks) → from_le_bytes w32 (get_or (take n chunks) i []) ≡ get_or (cells_in s) i 0
+  cell_is n i h =
+      let a : i < n = omega (arith, length-take n chunks) in
+      let b : i < length chunks = omega (arith, length-take n chunks) in
+      rw (get_or-take n chunks i, cells_are, get_or-map (from_le_bytes w32) chunks i [] 0)
 
--- what is left to store in so many cells, from a byte on
-abbrev pub rest : List ℕ → ℕ → ℕ → List ℕ
-rest bytes room at = take room (cells_in (drop at bytes))
+module _ (whole old : List ℕ) {cells : List ℕ} (i : ℕ) (e : cells ≡ take i whole ++ drop i old) where
+  -- a cell that is stored behind those before it
+  pub store_more : i < length whole → i < length old → set cells i (get_or whole i 0) ≡ take (i + 1) whole ++ drop (i + 1) old
+  store_more h k =
+      let front : length (take i whole) ≡ i = length-take-le i whole (omega arith) in
+      rw (e, drop-cons old i 0, set_at (take i whole) (get_or old i 0) (drop (suc i) old) (get_or whole i 0) i front, take_more whole i 0 h, add-one i)
+      (sym (append_assoc (take i whole) (get_or whole i 0 ∷ []) (drop (suc i) old)))
 
-rest_turn : (bytes : List ℕ) (room at : ℕ) → 1 ≤ room → at + 3 < length bytes → rest bytes room at ≡ cell_at bytes at ∷ rest bytes (room - 1) (at + 4)
-rest_turn bytes room at r h =
-    let one_more : room ≡ suc (room - 1) = omega arith in
-    ap (take room) (ap cells_in (four_bytes bytes at h) ∙ first_cell _ _ _ _ _) ∙
-    ap (λ n. take n (cell_at bytes at ∷ cells_in (drop (at + 4) bytes))) one_more
-
--- the invariant of reading: to store all cells is to store those that are left
-pub record Reading (bytes cells₀ cells : List ℕ) (count at : ℕ) : Type 0 where
-  pub inside : at ≤ length bytes
-  pub fits : count ≤ length cells₀
-  pub long : length cells ≡ length cells₀
-  pub counted : length (take (length cells₀) (cells_in bytes)) ≡ count + length (rest bytes (length cells₀ - count) at)
-  pub stored : sets cells₀ 0 (take (length cells₀) (cells_in bytes)) ≡ sets cells count (rest bytes (length cells₀ - count) at)
-
-pub reading_first : (bytes cells₀ : List ℕ) → Reading bytes cells₀ cells₀ 0 0
-reading_first bytes cells₀ =
-    let all : length cells₀ - 0 ≡ length cells₀ = omega arith in
-    record { inside = omega arith; fits = omega arith; long = refl; counted = rw all (omega arith); stored = rw all }
-
-module _ {bytes cells₀ cells : List ℕ} {count at : ℕ} (is : Reading bytes cells₀ cells count at) where
-  pub reading_next : {value : ℕ} → count < length cells₀ → at + 3 < length bytes → value ≡ cell_at bytes at →
-      Reading bytes cells₀ (set cells count value) (count + 1) (at + 4)
-  reading_next {value} more whole value-is =
-      let less : length cells₀ - count - 1 ≡ length cells₀ - (count + 1) = omega arith in
-      let turn = rest_turn bytes (length cells₀ - count) at (omega arith) whole ∙
-      ap (λ n. cell_at bytes at ∷ rest bytes n (at + 4)) less in
-      record {
-        inside = omega arith;
-        fits = omega arith;
-        long = length-set cells count value ∙ is.long;
-        counted = omega (arith, is.counted, ap length turn);
-        stored = is.stored ∙ ap (sets cells count) turn ∙ rw (value-is, add-one count);
-      }
-
-  -- with none left the cells are stored
-  module _ (none : rest bytes (length cells₀ - count) at ≡ []) where
-    count_is : count ≡ length (take (length cells₀) (cells_in bytes))
-    count_is = omega (arith, is.counted, ap length none)
-
-    pub read_all : (count ≤ length cells₀) × ((count ≡ length (take (length cells₀) (cells_in bytes))) ×
-        (cells ≡ take (length cells₀) (cells_in bytes) ++ drop count cells₀))
-    read_all =
-        let whole = take (length cells₀) (cells_in bytes) in
-        let from-0 : 0 + length whole ≡ count = omega (arith, count_is) in (
-          is.fits,
-          (
-            count_is,
-            sym (is.stored ∙ ap (sets cells count) none) ∙ sets-eq whole cells₀ 0 (omega (arith, count_is, is.fits)) ∙ ap (λ n. whole ++ drop n cells₀) from-0,
-          ),
-        )
-
-  -- no room is left, or no whole cell
-  pub none_fits : length cells₀ ≤ count → rest bytes (length cells₀ - count) at ≡ []
-  none_fits h =
-      let e : length cells₀ - count ≡ 0 = omega arith in
-      rw e
-
-  pub none_whole : length bytes < at + 4 → rest bytes (length cells₀ - count) at ≡ []
-  none_whole h = ap (take (length cells₀ - count)) (few_bytes (drop at bytes) (simp length-drop (omega arith))) ∙ take_none (length cells₀ - count)
+  -- all that there are, or as many as fit
+  pub store_all : i ≡ min (length old) (length whole) → cells ≡ take (length old) whole ++ drop i old
+  store_all h = e ∙ ap (λ t. t ++ drop i old) (rw (h, take_min))

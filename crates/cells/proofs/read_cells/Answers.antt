@@ -1,17 +1,27 @@
-use Rattle.std.proofs.Common.{arith}
-use Rattle.cells.proofs.Cells.{reading_next, read_all, none_fits, none_whole}
+-- `read_cells` meets its contract.
+use Rattle.std.proofs.Common.{◌≡◌, ap, ◌∙◌, arith, set, get_or, length-take}
+use Rattle.cells.specs.Cells.{cells_in}
+use Rattle.cells.proofs.Cells.{cells_count, cell_is, store_more, store_all}
 use Rattle.cells.proofs.read_cells.Goals as goal
 
-pub returns-then-bytes-at-clause-counts : goal.returns-then-bytes-at-clause-counts
-returns-then-bytes-at-clause-counts c =
-    let is = c.loop-count.invariant in omega (arith, (read_all is (none_whole is (omega arith))).1.0)
+pub loop-i-preserved : goal.loop-i-preserved
+loop-i-preserved c =
+    let s = c.args.bytes.now in
+    let l = c.loop-i in
+    let count = cells_count s c.as_chunks.ensures.front in
+    let short = length-take c.min-count.result c.as_chunks.result.0.now in
+    let value : c.from_le_bytes.result ≡ get_or (cells_in s) l.i 0 = c.from_le_bytes.ensures ∙ cell_is s c.as_chunks.ensures.front _ l.i c.loop-i-test.true in
+    ap (set l.cells l.i) value ∙ store_more (cells_in s) c.args.cells.now l.i l.invariant (omega (arith, short)) (omega (arith, short))
 
-pub returns-then-bytes-at-clause-stores : goal.returns-then-bytes-at-clause-stores
-returns-then-bytes-at-clause-stores c =
-    let is = c.loop-count.invariant in (read_all is (none_whole is (omega arith))).1.1
-
-pub loop-count-preserved : goal.loop-count-preserved
-loop-count-preserved c = reading_next c.loop-count.invariant (omega arith) (omega arith) c.cell.ensures
+pub returns-clause-counts : goal.returns-clause-counts
+returns-clause-counts c =
+    let count = cells_count c.args.bytes.now c.as_chunks.ensures.front in
+    simp length-take (omega arith)
 
 pub returns-clause-stores : goal.returns-clause-stores
-returns-clause-stores c = let is = c.loop-count.invariant in (read_all is (none_fits is (omega arith))).1.1
+returns-clause-stores c =
+    let s = c.args.bytes.now in
+    let count = cells_count s c.as_chunks.ensures.front in
+    let short = length-take c.min-count.result c.as_chunks.result.0.now in
+    let all : c.loop-i.i ≡ c.min-count.result = omega (arith, short) in
+    rw all at (store_all (cells_in s) c.args.cells.now c.loop-i.i c.loop-i.invariant (omega (arith, short)))

@@ -1,10 +1,7 @@
--- To store all cells is to store those from `at` on from `count` on.
-use Rattle.std.proofs.Common.{length, ◌-◌}
-use Rattle.cells.proofs.Cells.{Reading}
+-- The cells before `i` are stored, the others are as at the start.
+use Rattle.std.proofs.Common.{◌≡◌, ◌++◌, take, drop}
+use Rattle.cells.specs.Cells.{cells_in}
 use Rattle.cells.proofs.read_cells.Given as goal
 
-abbrev pub invariant-loop-count : goal.invariant-loop-count
-invariant-loop-count l = Reading l.bytes l.initial.cells l.cells l.count l.at
-
-abbrev pub decreases-loop-count : goal.decreases-loop-count
-decreases-loop-count l = length l.cells - l.count
+abbrev pub invariant-loop-i : goal.invariant-loop-i
+invariant-loop-i l = l.cells ≡ take l.i (cells_in l.bytes) ++ drop l.i l.fn.cells
