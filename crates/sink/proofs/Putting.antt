@@ -1,12 +1,12 @@
 -- Texts that are put one after another.
-use Rattle.std.proofs.Common.{◌≡◌, ℕ, List, [], ◌∷◌, ◌++◌, sym, refl, ap, ◌∙◌}
+use Rattle.std.proofs.Common.{◌≡◌, ℕ, List, [], ◌∷◌, ◌++◌, sym, ap, ◌∙◌}
+use Rattle.std.proofs.lemmas.List.Sums.{fold-append}
 use Rattle.sink.specs.Sinks.{Output, put_of, put_each}
 
 -- some texts, and then others
 pub each_append : (o : Output) (a b : List (List ℕ)) → put_each o (a ++ b) ≡ put_each (put_each o a) b
 unfolding put_each
-each_append o [] b = refl
-each_append o (t ∷ a) b = each_append (put_of o t) a b
+each_append o a b = fold-append put_of o a b
 
 -- what is put into an output `o`: one text; a text first; some texts first
 module _ (o : Output) where

@@ -1,8 +1,12 @@
 -- Where output goes: through a lent buffer to standard output, or into a digest of it. What standard output is sent is no part of a
 -- contract; what waits in the buffer, and the digest, are.
-use Rattle.std.specs.Prelude.{ℕ, ◌+◌, ◌-◌, ◌*◌, ◌%◌, Bool, true, false, List, [], ◌∷◌, ◌++◌, length, take, drop, ◌==◌, nat_le, nat_lt}
+use Rattle.std.specs.Prelude.{ℕ, ◌+◌, ◌-◌, ◌*◌, ◌%◌, Bool, false, List, ◌++◌, length, take, drop, ◌==◌, nat_le, nat_lt}
+use Rattle.std.specs.List.{fold}
 use Rattle.rules.specs.Lists.{if, must, must_not}
+use Rattle.sink.specs.declared.Digest.{Digest}
 use Rattle.sink.specs.declared.Sink.{Sink}
+use Rattle.sink.specs.declared.Target.{Target}
+use Rattle.sink.specs.declared.Target.TheVariants.{StandardOutput, Digested}
 
 -- a sink, and the bytes of its buffer
 abbrev pub Output : Type 0
@@ -10,10 +14,10 @@ Output = Sink × List ℕ
 
 -- at first: to standard output, or to a digest
 unfoldable pub written : Sink
-written = record { at = 0; digests = false; lines = 0; sum = 1 }
+written = record { at = 0; target = StandardOutput }
 
 unfoldable pub digested : Sink
-digested = record { at = 0; digests = true; lines = 0; sum = 1 }
+digested = record { at = 0; target = Digested (record { lines = 0; sum = 1 }) }
 
 -- the sum with one byte more, and the number of lines, which wraps at 2^64
 unfoldable pub mixed : ℕ → ℕ → ℕ
@@ -22,16 +26,21 @@ mixed sum byte = (sum % 4294967291 * 65599 + byte) % 4294967291
 unfoldable pub counted : ℕ → ℕ → ℕ
 counted lines byte = if (byte == 10) ((lines + 1) % 18446744073709551616) lines
 
--- the digest with these bytes; none waits then
-unfoldable pub digest_of : ℕ → ℕ → List ℕ → Sink
-digest_of lines sum [] = record { at = 0; digests = true; lines = lines; sum = sum }
-digest_of lines sum (b ∷ bytes) = digest_of (counted lines b) (mixed sum b) bytes
+abbrev pub with_byte : Digest → ℕ → Digest
+with_byte d byte = record { lines = counted d.lines byte; sum = mixed d.sum byte }
+
+-- the digest with these bytes
+abbrev pub digest_of : Digest → List ℕ → Digest
+digest_of = fold with_byte
+
+-- bytes that are handed on; none waits then
+abbrev pub handed_on : Target → List ℕ → Sink
+handed_on StandardOutput bytes = written
+handed_on (Digested d) bytes = record { at = 0; target = Digested (digest_of d bytes) }
 
 -- what waits is handed on; a sink that has more waiting than its buffer has bytes is left as it is
 unfoldable pub flushed_of : Sink → List ℕ → Sink
-flushed_of s out =
-    must_not (nat_lt (length out) s.at) s
-    (if s.digests (digest_of s.lines s.sum (take s.at out)) written)
+flushed_of s out = must_not (nat_lt (length out) s.at) s (handed_on s.target (take s.at out))
 
 -- so many bytes fit behind those that wait
 unfoldable pub fits_of : Sink → ℕ → ℕ → Bool
@@ -45,7 +54,7 @@ spliced out at text = take at out ++ (text ++ drop (at + length text) out)
 unfoldable pub stored_of : Output → List ℕ → Output
 stored_of o text =
     must (fits_of o.0 (length o.1) (length text)) o
-    (record { at = o.0.at + length text; digests = o.0.digests; lines = o.0.lines; sum = o.0.sum }, spliced o.1 o.0.at text)
+    (record { at = o.0.at + length text; target = o.0.target }, spliced o.1 o.0.at text)
 
 -- and what waits is handed on first if it does not
 unfoldable pub put_of : Output → List ℕ → Output
@@ -54,5 +63,4 @@ put_of o text =
 
 -- texts, one after another
 unfoldable pub put_each : Output → List (List ℕ) → Output
-put_each o [] = o
-put_each o (text ∷ texts) = put_each (put_of o text) texts
+put_each = fold put_of

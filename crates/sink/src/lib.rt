@@ -2,7 +2,7 @@
 #![tactic(auto)]
 
 ghost use Rattle.std.specs.Prelude.{◌≡◌, length};
-ghost use Rattle.sink.specs.Sinks.{written as written_of, digested as digested_of, mixed, digest_of, flushed_of, fits_of, stored_of, put_of};
+ghost use Rattle.sink.specs.Sinks.{written as written_of, digested as digested_of, counted, mixed, with_byte as with_byte_of, digest_of, flushed_of, fits_of, stored_of, put_of};
 
 // Standard output's number.
 const STDOUT: i32 = 1;
@@ -12,23 +12,52 @@ const MODULUS: u64 = 4294967291;
 
 const BASE: u64 = 65599;
 
+// A digest of output: how many lines, and the sum over all bytes.
 #[derive(Clone, Copy)]
-pub struct Sink {
-    // How many bytes of the buffer wait.
-    pub at: usize,
-    // Whether output is digested and not written.
-    pub digests: bool,
-    // The digest so far: how many lines, and the sum over all bytes.
+pub struct Digest {
     pub lines: u64,
     pub sum: u64,
 }
 
-// One more byte in the digest.
-#[tactic(auto, unfolding(crate::specs::Sinks::mixed))]
-fn add(sum: u64, byte: u8) -> u64
-    ensures { result ≡ mixed sum byte }
-{
-    ((sum % MODULUS) * BASE + byte as u64) % MODULUS
+// Where the bytes go that are handed on.
+#[derive(Clone, Copy)]
+pub enum Target {
+    StandardOutput,
+    Digested(Digest),
+}
+
+// The buffer stays outside, lent to each call, and its length `at` is here: no heap, so the memory is the caller's.
+#[derive(Clone, Copy)]
+pub struct Sink {
+    // How many bytes of the buffer wait.
+    pub at: usize,
+    pub target: Target,
+}
+
+impl Digest {
+    // One more byte in the digest.
+    #[tactic(auto, unfolding(crate::specs::Sinks::counted, crate::specs::Sinks::mixed))]
+    fn with_byte(self, byte: u8) -> Self
+        ensures { result ≡ with_byte_of self byte }
+    {
+        Self {
+            lines: if byte == b'\n' {
+                self.lines.wrapping_add(1)
+            } else {
+                self.lines
+            },
+            sum: ((self.sum % MODULUS) * BASE + u64::from(byte)) % MODULUS,
+        }
+    }
+
+    // The digest with these bytes.
+    fn with(self, bytes: &[u8]) -> Self
+        ensures { result ≡ digest_of self bytes.now }
+    {
+        bytes
+            .iter()
+            .fold(self, |digest, &byte| digest.with_byte(byte))
+    }
 }
 
 impl Sink {
@@ -39,44 +68,18 @@ impl Sink {
     {
         Self {
             at: 0,
-            digests: false,
-            lines: 0,
-            sum: 1,
+            target: Target::StandardOutput,
         }
     }
 
     // Output to a digest.
-    #[tactic(auto, unfolding(crate::specs::Sinks::written, crate::specs::Sinks::digested))]
+    #[tactic(auto, unfolding(crate::specs::Sinks::digested))]
     pub fn digested() -> Self
         ensures { result ≡ digested_of }
     {
-        let mut sink = Self::written();
-        sink.digests = true;
-        sink
-    }
-
-    // The digest with these bytes.
-    fn digest(self, bytes: &[u8]) -> Self
-        ensures { result ≡ digest_of self.lines self.sum bytes.now }
-    {
-        let mut sum = self.sum;
-        let mut lines = self.lines;
-        let mut i: usize = 0;
-        while i < bytes.len() {
-            let b = bytes[i];
-            sum = add(sum, b);
-            if b == b'\n' {
-                lines = std::num::wrapping_add_u64(lines, 1);
-                i += 1;
-            } else {
-                i += 1;
-            }
-        }
         Self {
             at: 0,
-            digests: true,
-            lines: lines,
-            sum: sum,
+            target: Target::Digested(Digest { lines: 0, sum: 1 }),
         }
     }
 
@@ -85,15 +88,20 @@ impl Sink {
     pub fn flush(self, out: &[u8]) -> Self
         ensures { result ≡ flushed_of self out.now }
     {
-        let at = self.at;
-        if out.len() < at {
+        if out.len() < self.at {
             return self;
         }
-        if self.digests {
-            return self.digest(&out[..at]);
+        let waiting = &out[..self.at];
+        match self.target {
+            Target::StandardOutput => {
+                io::write_all(STDOUT, waiting);
+                Self::written()
+            }
+            Target::Digested(digest) => Self {
+                at: 0,
+                target: Target::Digested(digest.with(waiting)),
+            },
         }
-        io::write_all(STDOUT, &out[..at]);
-        Self::written()
     }
 
     // Puts bytes into the buffer, which is handed on first where they would not fit.
@@ -104,8 +112,7 @@ impl Sink {
         if self.fits(out.len(), text.len()) {
             return self.store(out, text);
         }
-        let emptied = self.flush(out);
-        emptied.store(out, text)
+        self.flush(out).store(out, text)
     }
 
     // Whether so many bytes fit a buffer of this size.
@@ -113,35 +120,19 @@ impl Sink {
     fn fits(self, size: usize, count: usize) -> bool
         ensures { result ≡ fits_of self size count }
     {
-        if size < self.at {
-            return false;
-        }
-        count <= size - self.at
+        self.at <= size && count <= size - self.at
     }
 
     // Copies bytes to where they fit; a text longer than the buffer is left out.
+    #[tactic(auto, unfolding(crate::specs::Sinks::fits_of, crate::specs::Sinks::spliced, crate::specs::Sinks::stored_of))]
     fn store(self, out: &mut [u8], text: &[u8]) -> Self
         ensures { (result, out.new) ≡ stored_of (self, out.old) text.now }
     {
-        let from = self.at;
-        let size = out.len();
-        let count = text.len();
-        if size < from {
+        if !self.fits(out.len(), text.len()) {
             return self;
         }
-        if size - from < count {
-            return self;
-        }
-        let mut i: usize = 0;
-        while i < count {
-            out[from + i] = text[i];
-            i += 1;
-        }
-        Self {
-            at: from + count,
-            digests: self.digests,
-            lines: self.lines,
-            sum: self.sum,
-        }
+        let end = self.at + text.len();
+        out[self.at..end].copy_from_slice(text);
+        Self { at: end, ..self }
     }
 }
