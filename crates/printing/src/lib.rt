@@ -1,11 +1,9 @@
 // The program's lines, as they are put into a sink. A crate apart from `session`, whose must-fail edits would each check it again.
 #![tactic(auto)]
 
-mod figures;
 mod line;
 mod text;
 
-pub use figures::put_figures;
 pub use line::put_line;
 pub use sink::Sink;
-pub use text::{put_answer, put_number, put_refusal};
+pub use text::{put_answer, put_refusal};
