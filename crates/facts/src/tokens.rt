@@ -1,140 +1,121 @@
 // What the facts of the tokens, a part of the memory, say of one token.
-ghost use Rattle.std.specs.Prelude.{◌≡◌, ◌<◌, ◌≤◌, length};
+ghost use Rattle.std.specs.Prelude.{◌≡◌, ℕ, Bool, ◌<◌, ◌≤◌, length};
 ghost use Rattle.tables.specs.Layout.{deferred_at, most_tokens};
-ghost use Rattle.tables.specs.Facts.{standing_of, numbers_at, numbers_of, holds_of, last_of, hold_of, new_hold, left_hold};
+ghost use Rattle.tables.specs.Facts.{standing_of, numbers_at, numbers_of, due_of, left_of, last_of, hold_of, new_hold, left_hold};
+ghost use Rattle.facts.specs.{Answers};
 
 use tables::{
-    DEFERRED_MARK, FINISHED_MARK, Hold, NO_MARK, Numbers, POSITIONS, Question, RECORD_NUMBERS,
-    STANDINGS, TOKENS,
+    DEFERRED_MARK, FINISHED_MARK, NO_MARK, POSITIONS, Part, RECORD_NUMBERS, STANDINGS, Spoiled,
+    TOKENS,
 };
 
-fn wide(x: u16) -> usize
-    ensures same { result ≡ x }
-    ensures small { result < 65536 }
-{
-    x as usize
-}
-
 // A token's standing; 0 for a number that no token can have.
+#[tactic(auto, using(tables::proofs::memory::FactsLaws::standing_none), unfolding(tables::specs::Facts::standing_of))]
 fn standing(facts: &[u16], token: u16) -> u16
     requires { length facts.now ≡ deferred_at }
     ensures { result ≡ standing_of facts.now token }
 {
-    let at = wide(token);
     if token < TOKENS {
-        facts[STANDINGS + at]
+        facts[STANDINGS + usize::from(token)]
     } else {
         NO_MARK
     }
 }
 
 // Where the numbers of the record at a place stand: the place is 1 + the record's position, or 0 for no record.
-fn numbers_at(facts: &[u16], place: usize) -> Numbers
+#[tactic(auto, unfolding(tables::specs::Facts::numbers_at))]
+fn numbers_at(facts: &[u16], place: usize) -> Result<Part, Spoiled>
     requires { length facts.now ≡ deferred_at }
     ensures { result ≡ numbers_at facts.now place }
 {
     if place == 0 {
-        return Numbers::Part(0, 0);
+        return Ok(Part { start: 0, end: 0 });
     }
     if POSITIONS < place {
-        return Numbers::Bad;
+        return Err(Spoiled);
     }
-    let count = wide(facts[place - 1]);
-    if POSITIONS < place + count {
-        return Numbers::Bad;
+    let count = usize::from(facts[place - 1]);
+    let end = place + count;
+    if POSITIONS < end || !(1..=RECORD_NUMBERS).contains(&count) {
+        return Err(Spoiled);
     }
-    if count < 1 {
-        return Numbers::Bad;
-    }
-    if RECORD_NUMBERS < count {
-        return Numbers::Bad;
-    }
-    Numbers::Part(place, place + count)
+    Ok(Part { start: place, end })
 }
 
 // Where a token's numbers stand.
-fn numbers(facts: &[u16], token: u16) -> Numbers
+#[tactic(auto, unfolding(tables::specs::Facts::numbers_of))]
+fn numbers(facts: &[u16], token: u16) -> Result<Part, Spoiled>
     requires facts_len { length facts.now ≡ deferred_at }
     requires token_lt_most_tokens { token < most_tokens }
     ensures { result ≡ numbers_of facts.now token }
 {
-    let place = wide(facts[POSITIONS + wide(token)]);
-    numbers_at(facts, place)
+    let place = facts[POSITIONS + usize::from(token)];
+    numbers_at(facts, usize::from(place))
 }
 
-// What the answer to a question about one number is.
-#[tactic(auto, using(tables::proofs::memory::FactsLaws::due_deferred, tables::proofs::memory::FactsLaws::due_past, tables::proofs::memory::FactsLaws::due_other, tables::proofs::memory::FactsLaws::left_past, tables::proofs::memory::FactsLaws::left_other))]
-fn holds(facts: &[u16], question: Question, number: u16) -> bool
+// Whether a number is due for a token newly taken at this Count.
+#[tactic(auto, unfolding(tables::specs::Facts::due_of))]
+fn is_due(facts: &[u16], count: u16, token: u16, number: u16) -> bool
     requires { length facts.now ≡ deferred_at }
-    ensures { result ≡ holds_of facts.now question number }
+    ensures { result ≡ due_of facts.now count token number }
 {
-    match question {
-        Question::Due(count, token) => {
-            let s = standing(facts, number);
-            if s == DEFERRED_MARK {
-                return true;
-            }
-            if number < count {
-                return false;
-            }
-            number != token
-        }
-        Question::Left(token) => {
-            let s = standing(facts, number);
-            if s == FINISHED_MARK {
-                return false;
-            }
-            number != token
-        }
-    }
+    standing(facts, number) == DEFERRED_MARK || (count <= number && number != token)
 }
 
-// The last number of a record's number part for which the answer is yes.
-fn last(facts: &[u16], numbers: &[u16], question: Question) -> Hold
+// Whether a number is another than this token, and has not finished pipe 0.
+#[tactic(auto, unfolding(tables::specs::Facts::left_of))]
+fn is_left(facts: &[u16], past: u16, number: u16) -> bool
     requires { length facts.now ≡ deferred_at }
-    ensures { result ≡ last_of (holds_of facts.now question) numbers.now }
+    ensures { result ≡ left_of facts.now past number }
 {
-    let mut i = numbers.len();
-    while 0 < i {
-        let number = numbers[i - 1];
-        if holds(facts, question, number) {
-            return Hold::By(number);
-        }
-        i -= 1;
-    }
-    Hold::Free
+    standing(facts, number) != FINISHED_MARK && number != past
 }
 
-// What holds a token: the last of its numbers for which the answer is yes.
-fn held_by(facts: &[u16], question: Question, token: u16) -> Hold
+// The last of some numbers that passes a test.
+#[tactic(auto, using(tables::proofs::memory::FactsLaws::last_is_first))]
+fn last<F: Fn(u16) -> bool>(numbers: &[u16], passes: F) -> Option<u16>
+    requires { F.IsAlwaysCallable passes }
+    ensures { (test : ℕ → Bool) → Answers (F.post passes) test → result ≡ last_of test numbers.now }
+{
+    numbers.iter().rev().copied().find(|&number| passes(number))
+}
+
+// What holds a token: the last of its numbers that passes a test.
+#[tactic(auto, using(tables::proofs::memory::FactsLaws::numbers_within), unfolding(tables::specs::Facts::hold_of, tables::specs::Facts::hold_as))]
+fn held_by<F: Fn(u16) -> bool>(facts: &[u16], token: u16, passes: F) -> Result<Option<u16>, Spoiled>
     requires facts_len { length facts.now ≡ deferred_at }
     requires token_lt_most_tokens { token < most_tokens }
-    ensures { result ≡ hold_of facts.now question token }
+    requires callable { F.IsAlwaysCallable passes }
+    ensures { (test : ℕ → Bool) → Answers (F.post passes) test → result ≡ hold_of facts.now test token }
 {
-    let found = numbers(facts, token);
-    let Numbers::Part(a, b) = found else {
-        return Hold::Unsound;
-    };
-    last(facts, &facts[a..b], question)
+    let part = numbers(facts, token)?;
+    Ok(last(&facts[part.start..part.end], passes))
 }
 
 // What holds a new token: a number that is due.
-pub(crate) fn new_hold(facts: &[u16], count: u16, token: u16) -> Hold
+#[tactic(auto, unfolding(tables::specs::Facts::new_hold))]
+pub(crate) fn new_hold(facts: &[u16], count: u16, token: u16) -> Result<Option<u16>, Spoiled>
     requires facts_len { length facts.now ≡ deferred_at }
     requires token_lt_most_tokens { token < most_tokens }
     ensures { result ≡ new_hold facts.now count token }
 {
-    held_by(facts, Question::Due(count, token), token)
+    held_by(facts, token, |number| is_due(facts, count, token, number))
 }
 
 // What still holds a deferred token, below N, once this one has finished.
-pub(crate) fn left_hold(facts: &[u16], tokens: u16, past: u16, token: u16) -> Hold
+#[tactic(auto, unfolding(tables::specs::Facts::left_hold))]
+pub(crate) fn left_hold(
+    facts: &[u16],
+    tokens: u16,
+    past: u16,
+    token: u16,
+) -> Result<Option<u16>, Spoiled>
     requires facts_len { length facts.now ≡ deferred_at }
     requires tokens_le_most_tokens { tokens ≤ most_tokens }
     ensures { result ≡ left_hold facts.now tokens past token }
 {
     if tokens <= token {
-        return Hold::Unsound;
+        return Err(Spoiled);
     }
-    held_by(facts, Question::Left(past), token)
+    held_by(facts, token, |number| is_left(facts, past, number))
 }

@@ -1,19 +1,13 @@
 use Rattle.std.proofs.Common.{rules, sym, ◌∙◌}
-use Rattle.tables.proofs.memory.FactsLaws as laws
+use Rattle.std.proofs.lemmas.Iterator.Adapters.{YieldsList-from_rev_slice, option_map_id}
+use Rattle.std.proofs.lemmas.Iterator.Consumers.{YieldsList-from_copied}
+use Rattle.std.proofs.lemmas.Iterator.Search.{find_from_yields_List}
+use Rattle.tables.proofs.memory.FactsLaws.{last_is_first}
 use Rattle.facts.proofs.tokens.last.Goals as goal
 
-pub loop-i-init : goal.loop-i-init
-loop-i-init c = (search rules, laws.last_all _ _)
-
-pub returns-then-holds : goal.returns-then-holds
-returns-then-holds c =
-    laws.last_found _ _ _ c.loop-i.invariant.1 c.loop-i-test.true c.loop-i.invariant.0 (sym c.holds.ensures ∙ c.if-holds.true)
-
-pub loop-i-preserved : goal.loop-i-preserved
-loop-i-preserved c = (
-  search rules,
-  laws.last_next _ _ _ c.loop-i.invariant.1 c.loop-i-test.true c.loop-i.invariant.0 (sym c.holds.ensures ∙ c.if-holds.false),
-)
-
 pub returns : goal.returns
-returns c = laws.last_none _ _ _ c.loop-i.invariant.1 c.loop-i-test.false
+returns g c test tells =
+    sym (option_map_id c.find.result)
+    ∙ find_from_yields_List test _ _ c.find.result c.find.ensures.ran
+    (YieldsList-from_copied (YieldsList-from_rev_slice c.args.numbers.now cc)) (λ x b q k. search (rules, tells))
+    ∙ last_is_first test c.args.numbers.now
