@@ -72,7 +72,6 @@ fn is_left(facts: &[u16], past: u16, number: u16) -> bool
 }
 
 // The last of some numbers that passes a test.
-#[tactic(auto, using(tables::proofs::memory::FactsLaws::last_is_first))]
 fn last<F: Fn(u16) -> bool>(numbers: &[u16], passes: F) -> Option<u16>
     requires { F.IsAlwaysCallable passes }
     ensures { (test : ℕ → Bool) → Answers (F.post passes) test → result ≡ last_of test numbers.now }

@@ -4,7 +4,7 @@ use mathlib.Core.Bool.{Bool, true, false}
 use mathlib.Core.List.{List}
 use Prim.Native.Nat.{ℕ, ◌<◌, ◌≤◌}
 use lib.ListN.{length, take}
-use borrow.Author.Tests.{le-leb, lt-leb, lt-ltb, le-ltb}
+use borrow.Author.Tests.{le-leb, lt-ltb}
 use Rattle.std.specs.Prelude.{Option, Result, Err}
 use Rattle.rules.specs.Sources.{Spoiled}
 use Rattle.tables.specs.declared.Tables.{Tables}
@@ -64,30 +64,10 @@ module _ (t : Tables) (m : List ℕ) {r : Bool} (told : r ≡ sound_of (t, m)) w
   passes_not d e = rw (← told, e)
 
 -- what holds one token
-module _ (m : List ℕ) (count t : ℕ) where
-  pub new_few : length m < 32768 → Err spoiled ≡ safe_new_hold m count t
-  unfolding safe_new_hold
-  new_few h = rw (lt-leb 32768 (length m) h)
+pub new_is : (m : List ℕ) (count t : ℕ) → 32768 ≤ length m → t < 4096 → safe_new_hold m count t ≡ new_hold (take 20480 m) count t
+unfolding safe_new_hold
+new_is m count t whole h = rw (le-leb 32768 (length m) whole, lt-ltb t 4096 h)
 
-  module _ (whole : 32768 ≤ length m) where
-    pub new_above : 4096 ≤ t → Err spoiled ≡ safe_new_hold m count t
-    unfolding safe_new_hold
-    new_above h = rw (le-leb 32768 (length m) whole, le-ltb t 4096 h)
-
-    pub new_is : t < 4096 → safe_new_hold m count t ≡ new_hold (take 20480 m) count t
-    unfolding safe_new_hold
-    new_is h = rw (le-leb 32768 (length m) whole, lt-ltb t 4096 h)
-
-module _ (m : List ℕ) (tokens d t : ℕ) where
-  pub left_few : length m < 32768 → Err spoiled ≡ safe_left_hold m tokens d t
-  unfolding safe_left_hold
-  left_few h = rw (lt-leb 32768 (length m) h)
-
-  module _ (whole : 32768 ≤ length m) where
-    pub left_above : 4096 < tokens → Err spoiled ≡ safe_left_hold m tokens d t
-    unfolding safe_left_hold
-    left_above h = rw (le-leb 32768 (length m) whole, lt-leb tokens 4096 h)
-
-    pub left_is : tokens ≤ 4096 → safe_left_hold m tokens d t ≡ left_hold (take 20480 m) tokens d t
-    unfolding safe_left_hold
-    left_is h = rw (le-leb 32768 (length m) whole, le-leb tokens 4096 h)
+pub left_is : (m : List ℕ) (tokens d t : ℕ) → 32768 ≤ length m → tokens ≤ 4096 → safe_left_hold m tokens d t ≡ left_hold (take 20480 m) tokens d t
+unfolding safe_left_hold
+left_is m tokens d t whole h = rw (le-leb 32768 (length m) whole, le-leb tokens 4096 h)

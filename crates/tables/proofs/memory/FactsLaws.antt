@@ -6,17 +6,17 @@ use Prim.Native.Nat.{ℕ, ◌+◌, ◌-◌, ◌<◌, ◌≤◌}
 use native.Mathlib.Omega.{arith}
 use lib.Dec.{leb, eqb}
 use lib.ListN.{length, get_or, take, drop, get_or-eq_default}
-use borrow.Author.Tests.{le-leb, lt-leb, eq-eqb, ne_eqb, leb-true, leb-false}
+use borrow.Author.Tests.{lt-leb, eq-eqb, ne_eqb, leb-true, leb-false}
 use Rattle.rules.specs.Lists.{if, any, has}
 use Rattle.rules.proofs.lists.Tests.{by_test, if_same}
-use Rattle.std.specs.Prelude.{Option, Some, None, Result, Ok, Err, reverse}
+use Rattle.std.specs.Prelude.{Some, None, Result, Ok, Err, reverse}
 use Rattle.std.specs.List.{find}
 use Rattle.std.specs.Option.{option_or}
 use Rattle.std.proofs.lemmas.List.Folds.{find-append}
 use Rattle.std.proofs.lemmas.List.{reverse-append}
 use Rattle.tables.specs.declared.Part.{Part}
 use Rattle.tables.specs.declared.Spoiled.{Spoiled}
-use Rattle.tables.specs.Facts.{Hold, spoiled, part, standing_of, numbers_at, numbers_of, due_of, left_of, last_of, hold_as, hold_of, new_hold, left_hold}
+use Rattle.tables.specs.Facts.{Hold, spoiled, part, standing_of, numbers_at, numbers_of, left_of, last_of, hold_as, hold_of, left_hold}
 use Rattle.tables.specs.Releasing.{is_unsound}
 
 module _ (f : List ℕ) where
@@ -25,30 +25,10 @@ module _ (f : List ℕ) where
   unfolding standing_of
   standing_none n e h = sym (get_or-eq_default f 0 {n = 16384 + n} (omega arith))
 
-  -- the record at a place: none, cut short, a bad count, or good
-  pub at_none : {place : ℕ} → place ≡ 0 → Ok (part 0 0) ≡ numbers_at f place
+  -- the record at a place, where it is cut short
+  pub at_beyond : {place n : ℕ} → n ≡ get_or f (place - 1) 0 → (place ≡ 0 → ⊥) → 12288 < place + n → Err spoiled ≡ numbers_at f place
   unfolding numbers_at
-  at_none e = rw e
-
-  module _ {place n : ℕ} where
-    module _ (n-is : n ≡ get_or f (place - 1) 0) (given : place ≡ 0 → ⊥) where
-      pub at_beyond : 12288 < place + n → Err spoiled ≡ numbers_at f place
-      unfolding numbers_at
-      at_beyond h = simp (← n-is, ne_eqb place 0 given, lt-leb (place + n) 12288 h)
-
-      module _ (inside : place + n ≤ 12288) where
-        pub at_empty : n < 1 → Err spoiled ≡ numbers_at f place
-        unfolding numbers_at
-        at_empty h = simp (← n-is, ne_eqb place 0 given, le-leb (place + n) 12288 inside, lt-leb 1 n h)
-
-        module _ (some : 1 ≤ n) where
-          pub at_long : 16 < n → Err spoiled ≡ numbers_at f place
-          unfolding numbers_at
-          at_long h = simp (← n-is, ne_eqb place 0 given, le-leb (place + n) 12288 inside, le-leb 1 n some, lt-leb n 16 h)
-
-          pub at_good : n ≤ 16 → Ok (part place (place + n)) ≡ numbers_at f place
-          unfolding numbers_at
-          at_good h = simp (← n-is, ne_eqb place 0 given, le-leb (place + n) 12288 inside, le-leb 1 n some, le-leb n 16 h)
+  at_beyond {place} {n} n-is given h = simp (← n-is, ne_eqb place 0 given, lt-leb (place + n) 12288 h)
 
 -- the last number that passes is the first of the list walked back
 pub last_is_first : (p : ℕ → Bool) (l : List ℕ) → find p (reverse l) ≡ last_of p l
@@ -95,28 +75,6 @@ at_within f place =
 pub numbers_within : (f : List ℕ) (t : ℕ) {r : Result Part Spoiled} {p : Part} → r ≡ numbers_of f t → r ≡ Ok p → (p.start ≤ p.end) × (p.end ≤ 12288)
 unfolding numbers_of within
 numbers_within f t e h = subst within (sym e ∙ h) (at_within f _)
-
--- what holds a token, by where its numbers stand
-module _ (f : List ℕ) (test : ℕ → Bool) (t : ℕ) {r : Result Part Spoiled} (numbers_are : r ≡ numbers_of f t) where
-  pub held_bad : {e : Spoiled} → r ≡ Err e → Err e ≡ hold_of f test t
-  unfolding hold_of hold_as
-  held_bad e-is = rw (← numbers_are, e-is)
-
-  pub held_part : {p : Part} {x : Option ℕ} → r ≡ Ok p → x ≡ last_of test (take (p.end - p.start) (drop p.start f)) → Ok x ≡ hold_of f test t
-  unfolding hold_of hold_as
-  held_part e h = rw (← numbers_are, e, h)
-
-pub new_is : (f : List ℕ) (count t : ℕ) {x : Hold} → x ≡ hold_of f (due_of f count t) t → x ≡ new_hold f count t
-unfolding new_hold
-new_is f count t e = e
-
-pub left_beyond : (f : List ℕ) (tokens d t : ℕ) → tokens ≤ t → Err spoiled ≡ left_hold f tokens d t
-unfolding left_hold
-left_beyond f tokens d t h = rw (le-leb tokens t h)
-
-pub left_within : (f : List ℕ) (tokens d t : ℕ) {x : Hold} → t < tokens → x ≡ hold_of f (left_of f d) t → x ≡ left_hold f tokens d t
-unfolding left_hold
-left_within f tokens d t h e = rw (lt-leb tokens t h) e
 
 -- what is left to a token is another number
 pub left_another : (f : List ℕ) (d n : ℕ) → left_of f d n ≡ true → eqb n d ≡ false

@@ -1,5 +1,5 @@
 -- The test of the tables' ranges says what `InRange` says.
-use mathlib.Core.Path.{◌≡◌, refl, sym}
+use mathlib.Core.Path.{◌≡◌, refl}
 use mathlib.Core.Bool.{Bool, true, false}
 use mathlib.Core.List.{List}
 use Prim.Native.Nat.{ℕ, ◌≤◌}
@@ -8,7 +8,6 @@ use borrow.Author.Tests.{le-leb, leb-true}
 use lib.Dec.{leb}
 use lib.ListN.{length}
 use Rattle.rules.specs.Lists.{if}
-use Rattle.rules.proofs.lists.Tests.{if_eta}
 use Rattle.tables.specs.declared.Tables.{Tables}
 use Rattle.tables.specs.State.{InRange, sound_of}
 
@@ -39,14 +38,6 @@ sound_range t m e =
       },
       leb-true 32768 (length m) a.0,
     )
-
--- where all the other numbers are within their ranges, the last decides
-pub sound_last : (t : Tables) (m : List ℕ) → 32768 ≤ length m → t.tokens ≤ 4096 → t.count ≤ t.tokens → t.first ≤ t.end → t.end ≤ 4096 →
-    leb t.held 4096 ≡ sound_of (t, m)
-unfolding sound_of
-sound_last t m a b c d e =
-    rw (le-leb 32768 (length m) a, le-leb t.tokens 4096 b, le-leb t.count t.tokens c, le-leb t.first t.end d, le-leb t.end 4096 e)
-    (sym (if_eta (leb t.held 4096)))
 
 -- tables within their ranges are sound
 pub range_sound : (t : Tables) (m : List ℕ) → InRange t → 32768 ≤ length m → sound_of (t, m) ≡ true
