@@ -1,23 +1,21 @@
 -- What a choice that is accepted without rounding does to T and the figures.
-use Rattle.std.specs.Prelude.{Bool, true, List, ℕ, leb, eqb}
+use Rattle.std.specs.Prelude.{Bool, true, List, Option, Some, None, ℕ, leb, eqb}
+use Rattle.vocabulary.specs.declared.Token.{Token}
 use Rattle.rules.specs.Lists.{if, must}
 use Rattle.rules.specs.Choices.{Answer}
 use Rattle.rules.specs.Rounding.{sum_most, is_base, Rounding, with_sum, Passing, NonePasses, passing, sum_after, figures_after}
 use Rattle.rules.specs.Rounding as paper
 use Rattle.rounding.specs.Roundings.{rounding_of}
-use Rattle.rounding.specs.declared.settling.Passer.{Passer}
-use Rattle.rounding.specs.declared.settling.Passer.TheVariants.{Nobody, Passes}
-use Rattle.rounding.specs.declared.settling.Settled.{Settled}
-use Rattle.rounding.specs.declared.settling.Settled.TheVariants.{Done, Spoiled}
+use Rattle.rounding.specs.declared.Rounding as code
 
 -- whose cell passes when a token finishes a pipe: its own, if that is the pipe that rounds
 unfoldable pub passer : Rounding → ℕ → ℕ → Passing
 passer r p t = if (eqb r.base 0) NonePasses (if (eqb p r.pipe) (paper.Passes t) NonePasses)
 
 -- who passes
-abbrev pub passer_of : Passer → Passing
-passer_of Nobody = NonePasses
-passer_of (Passes t) = paper.Passes t.0
+abbrev pub passer_of : Option Token → Passing
+passer_of None = NonePasses
+passer_of (Some t) = paper.Passes t.0
 
 -- a base, or that of a run without rounding
 unfoldable pub is_known : ℕ → Bool
@@ -28,9 +26,9 @@ pub data Settling : Type 0 where
   Spoils : List ℕ → Settling
   Leaves : Rounding → List ℕ → Settling
 
-abbrev pub settled_of : Settled → List ℕ → Settling
-settled_of (Done r) figures = Leaves (rounding_of r) figures
-settled_of Spoiled figures = Spoils figures
+abbrev pub settled_of : Option code.Rounding → List ℕ → Settling
+settled_of (Some r) figures = Leaves (rounding_of r) figures
+settled_of None figures = Spoils figures
 
 -- "then 14 if T would pass 4,096,000,000, and nothing is changed"; else the cell that passes is added to T, and its token has the rise
 -- for its figure. (With a rounding within its ranges its base is known.)

@@ -2,30 +2,25 @@
 ghost use Rattle.std.specs.Prelude.{◌≡◌};
 ghost use Rattle.rounding.specs.Bases.{base_in};
 
-#[derive(Clone, Copy)]
+use vocabulary::Refusal;
+
+#[derive(Clone, Copy, PartialEq, Eq)]
 pub enum Base {
     Three,
     Five,
 }
 
-// What a number says of a base.
-#[derive(Clone, Copy)]
-pub enum BaseNumber {
-    Known(Base),
-    Unknown,
-}
+// The base that a number stands for.
+impl TryFrom<u16> for Base {
+    type Error = Refusal;
 
-impl Base {
-    // The base that a number stands for.
-    pub(crate) fn from_number(n: u16) -> BaseNumber
-        ensures { result ≡ base_in n }
-    {
-        if n == 3 {
-            return BaseNumber::Known(Base::Three);
+    ghost try_from_gives = { λ n r. r ≡ base_in n };
+
+    fn try_from(n: u16) -> Result<Self, Refusal> {
+        match n {
+            3 => Ok(Base::Three),
+            5 => Ok(Base::Five),
+            _ => Err(Refusal::Base),
         }
-        if n == 5 {
-            return BaseNumber::Known(Base::Five);
-        }
-        BaseNumber::Unknown
     }
 }

@@ -1,5 +1,5 @@
 // What is lent for rounding: a cell and a figure for each token.
-ghost use Rattle.std.specs.Prelude.{◌≡◌, [], ◌∷◌, eqb, length, replicate};
+ghost use Rattle.std.specs.Prelude.{◌≡◌, [], ◌∷◌, eqb, length};
 ghost use Rattle.rules.specs.Lists.{all};
 ghost use Rattle.rules.specs.Rounding.{cells_fit};
 
@@ -11,10 +11,8 @@ pub(crate) fn cells_fit(cells: &[u32]) -> bool
     ensures { result ≡ cells_fit cells.now }
 {
     let mut ok = true;
-    let mut i: usize = 0;
-    while i < cells.len() {
-        ok = (cells[i] <= CELL_MOST) & ok;
-        i += 1;
+    for cell in cells {
+        ok = (*cell <= CELL_MOST) & ok;
     }
     ok
 }
@@ -24,22 +22,5 @@ pub(crate) fn cells_fit(cells: &[u32]) -> bool
 pub fn lent_fits(n: usize, cells: &[u32], figures: usize) -> bool
     ensures { result ≡ all (eqb (length cells.now) n ∷ eqb figures n ∷ cells_fit cells.now ∷ []) }
 {
-    if cells.len() != n {
-        return false;
-    }
-    if figures != n {
-        return false;
-    }
-    cells_fit(cells)
-}
-
-// Clears all figures.
-pub(crate) fn clear(figures: &mut [u32])
-    ensures { figures.new ≡ replicate (length figures.old) 0 }
-{
-    let mut i: usize = 0;
-    while i < figures.len() {
-        figures[i] = 0;
-        i += 1;
-    }
+    cells.len() == n && figures == n && cells_fit(cells)
 }

@@ -4,20 +4,19 @@ ghost use Rattle.rules.specs.Rounding.{is_base, is_rounding_pipe};
 ghost use Rattle.rounding.specs.Roundings.{rounding_of, rounding_fits};
 
 use crate::Rounding;
+use crate::base::Base;
 use crate::sums::SUM_MOST;
+use vocabulary::Pipe;
 
 // How many pipes a plan may have: each has a flag.
 pub(crate) const MOST_PIPES: u16 = 16;
 
 // Whether a number is a base.
-#[tactic(auto, using(rules::proofs::lists::Tests::tests), unfolding(rules::specs::Rounding::is_base))]
+#[tactic(auto, using(crate::proofs::laws::Bases::base_test))]
 pub(crate) fn is_base(n: u16) -> bool
     ensures { result ≡ is_base n }
 {
-    if n == 3 {
-        return true;
-    }
-    n == 5
+    Base::try_from(n).is_ok()
 }
 
 // Whether a number is that of a serial pipe of the plan.
@@ -26,11 +25,7 @@ pub(crate) fn is_rounding_pipe(pipes: u16, serial: &[bool; 16], pipe: u16) -> bo
     requires { pipes ≤ 16 }
     ensures { result ≡ is_rounding_pipe pipes serial.now pipe }
 {
-    if pipes <= pipe {
-        return false;
-    }
-    let p = pipe as usize;
-    serial[p]
+    pipe < pipes && serial[usize::from(pipe)]
 }
 
 // Whether a rounding is within its ranges, in a plan of at most 16 pipes with these flags.
@@ -42,16 +37,7 @@ pub fn in_range(r: Rounding, pipes: u16, serial: &[bool; 16]) -> bool
         return false;
     }
     if r.base == 0 {
-        if r.pipe.0 != 0 {
-            return false;
-        }
-        return r.sum == 0;
+        return r.pipe == Pipe(0) && r.sum == 0;
     }
-    if !is_base(r.base) {
-        return false;
-    }
-    if !is_rounding_pipe(pipes, serial, r.pipe.0) {
-        return false;
-    }
-    r.sum <= SUM_MOST
+    is_base(r.base) && is_rounding_pipe(pipes, serial, r.pipe.0) && r.sum <= SUM_MOST
 }

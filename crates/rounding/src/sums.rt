@@ -1,6 +1,6 @@
 // Published sums. No sum here wraps: a published sum of a 32-bit number is one too, as 3 and 5 divide the largest.
-ghost use Rattle.std.specs.Prelude.{◌≡◌, ◌+◌, ◌≤◌};
-ghost use Rattle.rules.specs.Rounding.{published as published_by, rise as rise_by};
+ghost use Rattle.std.specs.Prelude.{true, ◌≡◌, ◌+◌, ◌≤◌};
+ghost use Rattle.rules.specs.Rounding.{is_base, published as published_by, rise as rise_by};
 ghost use Rattle.rounding.specs.Bases.{base_of};
 ghost use Rattle.rounding.specs.Passings.{pass_of};
 
@@ -16,43 +16,27 @@ pub struct Passed {
     pub figure: u32,
 }
 
-#[derive(Clone, Copy)]
-pub enum Passing {
-    Passes(Passed),
-    TooMuch,
-}
-
-// The multiple of 3 that is nearest to a sum.
-#[tactic(auto, unfolding(rules::specs::Rounding::published))]
-fn nearest_three(sum: u32) -> u32
-    ensures { result ≡ published_by 3 sum }
+// The multiple of a base that is nearest to a sum. (A constant divides in less time than a variable does.)
+#[tactic(auto, using(crate::proofs::laws::Bases::no_wrap, crate::proofs::laws::Bases::rounds_up, crate::proofs::laws::Bases::rounds_down, rules::proofs::rounding::Sums::is_base_lem))]
+fn nearest<const BASE: u32>(sum: u32) -> u32
+    requires { is_base BASE ≡ true }
+    ensures { result ≡ published_by BASE sum }
 {
-    let over = sum % 3;
-    if 1 < over {
-        return sum - over + 3;
-    }
-    sum - over
-}
-
-// The multiple of 5 that is nearest to a sum.
-#[tactic(auto, unfolding(rules::specs::Rounding::published))]
-fn nearest_five(sum: u32) -> u32
-    ensures { result ≡ published_by 5 sum }
-{
-    let over = sum % 5;
-    if 2 < over {
-        return sum - over + 5;
+    let over = sum % BASE;
+    if BASE / 2 < over {
+        return sum - over + BASE;
     }
     sum - over
 }
 
 // The published sum.
+#[tactic(auto, unfolding(rules::specs::Rounding::is_base))]
 pub(crate) fn published(base: Base, sum: u32) -> u32
     ensures { result ≡ published_by (base_of base) sum }
 {
     match base {
-        Base::Three => nearest_three(sum),
-        Base::Five => nearest_five(sum),
+        Base::Three => nearest::<3>(sum),
+        Base::Five => nearest::<5>(sum),
     }
 }
 
@@ -67,18 +51,13 @@ fn rise(base: Base, sum: u32, cell: u32) -> u32
 
 // A cell passes: T after it and its figure, unless T would pass its limit.
 #[tactic(auto, using(rules::proofs::lists::Tests::tests), unfolding(crate::specs::Passings::pass_of))]
-pub(crate) fn pass(base: Base, sum: u32, cell: u32) -> Passing
+pub(crate) fn pass(base: Base, sum: u32, cell: u32) -> Option<Passed>
     ensures { result ≡ pass_of (base_of base) sum cell }
 {
-    if SUM_MOST < sum {
-        return Passing::TooMuch;
-    }
-    if SUM_MOST - sum < cell {
-        return Passing::TooMuch;
+    let after = sum.checked_add(cell)?;
+    if SUM_MOST < after {
+        return None;
     }
     let figure = rise(base, sum, cell);
-    Passing::Passes(Passed {
-        sum: sum + cell,
-        figure,
-    })
+    Some(Passed { sum: after, figure })
 }

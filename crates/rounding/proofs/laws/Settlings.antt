@@ -6,6 +6,8 @@ use Prim.Native.Nat.{ℕ, ◌+◌, ◌-◌, ◌≤◌, ◌<◌}
 use native.Mathlib.Omega.{arith}
 use lib.Dec.{leb, eqb}
 use lib.ListN.{get_or, set}
+use Rattle.std.specs.Prelude.{Option, Some, None}
+use Rattle.std.specs.Result.{result_ok}
 use borrow.Author.Tests.{le-leb, lt-leb, leb-true, leb-false, eq-eqb, ne_eqb}
 use Rattle.rules.specs.Choices.{Answer, Started, Finished, Stopped, Refused}
 use Rattle.rules.specs.Rounding.{rise, sum_most, is_base, Rounding, with_sum, NonePasses, finisher, passing, sum_after}
@@ -17,10 +19,7 @@ use Rattle.rounding.specs.Passings.{pass_of}
 use Rattle.rounding.specs.Settlings.{passer, is_known, Settling, Spoils, Leaves, settle_by}
 use Rattle.rounding.specs.declared.base.Base.{Base}
 use Rattle.rounding.specs.declared.base.Base.TheVariants.{Three, Five}
-use Rattle.rounding.specs.declared.base.BaseNumber.TheVariants.{Known, Unknown}
 use Rattle.rounding.specs.declared.sums.Passed.{Passed}
-use Rattle.rounding.specs.declared.sums.Passing.{Passing}
-use Rattle.rounding.specs.declared.sums.Passing.TheVariants.{Passes, TooMuch}
 
 module _ (r : Rounding) where
   -- without rounding nobody passes
@@ -51,22 +50,22 @@ module _ (r : Rounding) where
   by_refusal n = sym (if_same (eqb r.base 0) NonePasses)
 
 -- the base of a number
-pub base_known : (n : ℕ) (b : Base) → base_in n ≡ Known b → base_of b ≡ n
+pub base_known : (n : ℕ) (b : Base) → Some b ≡ result_ok (base_in n) → base_of b ≡ n
 base_known n b e = elim (same_as n 3) [
-  | same q t ↦ let w : Known Three ≡ Known b = rw t at e in let v : Three ≡ b = cc in sym (ap base_of v) ∙ sym q
+  | same q t ↦ let w : Some b ≡ Some Three = rw t at e in let v : b ≡ Three = cc in ap base_of v ∙ sym q
   | other d t ↦ elim (same_as n 5) [
-    | same q u ↦ let w : Known Five ≡ Known b = rw (t, u) at e in let v : Five ≡ b = cc in sym (ap base_of v) ∙ sym q
-    | other f u ↦ let w : Unknown ≡ Known b = rw (t, u) at e in let z : ◌≡◌ {A = ℕ} 0 1 = cc in absurd (omega arith)
+    | same q u ↦ let w : Some b ≡ Some Five = rw (t, u) at e in let v : b ≡ Five = cc in ap base_of v ∙ sym q
+    | other f u ↦ let w : Some b ≡ None = rw (t, u) at e in cc
   ]
 ]
 
 -- a number that is a base stands for one
-base_there : (n : ℕ) → is_base n ≡ true → base_in n ≡ Unknown → ⊥
+base_there : (n : ℕ) → is_base n ≡ true → None ≡ result_ok (base_in n) → ⊥
 unfolding is_base
 base_there n h e = elim (same_as n 3) [
-  | same q t ↦ let w : Known Three ≡ Unknown = rw t at e in let z : ◌≡◌ {A = ℕ} 0 1 = cc in absurd (omega arith)
+  | same q t ↦ let w : None ≡ Some Three = rw t at e in cc
   | other d t ↦ elim (same_as n 5) [
-    | same q u ↦ let w : Known Five ≡ Unknown = rw (t, u) at e in let z : ◌≡◌ {A = ℕ} 0 1 = cc in absurd (omega arith)
+    | same q u ↦ let w : None ≡ Some Five = rw (t, u) at e in cc
     | other f u ↦ never (sym (rw (t, u) at h))
   ]
 ]
@@ -98,27 +97,27 @@ module _ (r : Rounding) (a : Answer) (cells figures : List ℕ) where
       some_base = rw (ne_eqb r.base 0 (passing_some r a t (sym e))) at h
 
       -- then its base is known
-      pub numbered : {o : Settling} → base_in r.base ≡ Unknown → o ≡ settle_by r a cells figures
+      pub numbered : {o : Settling} → None ≡ result_ok (base_in r.base) → o ≡ settle_by r a cells figures
       numbered u = absurd (base_there r.base some_base u)
 
-      module _ (b : Base) (known : base_in r.base ≡ Known b) where
+      module _ (b : Base) (known : Some b ≡ result_ok (base_in r.base)) where
         -- T would pass its limit
-        over_most : pass_of (base_of b) r.sum (get_or cells t 0) ≡ TooMuch → Spoils figures ≡ settle_by r a cells figures
+        over_most : pass_of (base_of b) r.sum (get_or cells t 0) ≡ None → Spoils figures ≡ settle_by r a cells figures
         unfolding settle_by pass_of
         over_most m = elim (see (leb (r.sum + get_or cells t 0) sum_most)) [
           | fails q ↦ rw (h, ← e, q)
-          | holds q ↦ let w : Passes _ ≡ TooMuch = rw q at m in let z : ◌≡◌ {A = ℕ} 0 1 = cc in absurd (omega arith)
+          | holds q ↦ let w : Some _ ≡ None = rw q at m in cc
         ]
 
         -- or not
-        within_most : (p : Passed) → pass_of (base_of b) r.sum (get_or cells t 0) ≡ Passes p →
+        within_most : (p : Passed) → pass_of (base_of b) r.sum (get_or cells t 0) ≡ Some p →
             Leaves (with_sum r p.sum) (set figures t p.figure) ≡ settle_by r a cells figures
         unfolding settle_by pass_of
         within_most p m = elim (see (leb (r.sum + get_or cells t 0) sum_most)) [
-          | fails q ↦ let w : TooMuch ≡ Passes p = rw q at m in let z : ◌≡◌ {A = ℕ} 0 1 = cc in absurd (omega arith)
+          | fails q ↦ let w : None ≡ Some p = rw q at m in cc
           | holds q ↦
               let told : Passed = record { sum = r.sum + get_or cells t 0; figure = rise (base_of b) r.sum (get_or cells t 0) } in
-              let w : Passes told ≡ Passes p = rw q at m in
+              let w : Some told ≡ Some p = rw q at m in
               let v : p ≡ told = cc in
               rw (h, ← e, q)
               (ap (λ (p : Passed). Leaves (with_sum r p.sum) (set figures t p.figure)) v ∙
@@ -126,14 +125,14 @@ module _ (r : Rounding) (a : Answer) (cells figures : List ℕ) where
         ]
 
         -- the same, with the code's cell, answer and figures
-        module _ {cell : ℕ} {o : Passing} (at : cell ≡ get_or cells t 0) (told : o ≡ pass_of (base_of b) r.sum cell) where
+        module _ {cell : ℕ} {o : Option Passed} (at : cell ≡ get_or cells t 0) (told : o ≡ pass_of (base_of b) r.sum cell) where
           there : pass_of (base_of b) r.sum (get_or cells t 0) ≡ o
           there = ap (pass_of (base_of b) r.sum) (sym at) ∙ sym told
 
-          pub too_much : o ≡ TooMuch → Spoils figures ≡ settle_by r a cells figures
+          pub too_much : o ≡ None → Spoils figures ≡ settle_by r a cells figures
           too_much m = over_most (there ∙ m)
 
-          pub passes : (p : Passed) → o ≡ Passes p → (left : List ℕ) → left ≡ set figures t p.figure →
+          pub passes : (p : Passed) → o ≡ Some p → (left : List ℕ) → left ≡ set figures t p.figure →
               Leaves (with_sum r p.sum) left ≡ settle_by r a cells figures
           passes p m left e = ap (λ (f : List ℕ). Leaves (with_sum r p.sum) f) e ∙ within_most p (there ∙ m)
 

@@ -1,11 +1,8 @@
--- `ok` says whether all cells before `i` fit.
-use Rattle.std.proofs.Common.{length, get_or, ◌-◌, ◌≡◌, ◌≤◌}
+-- `ok` says whether all cells so far fit.
+use Rattle.std.proofs.Common.{get_or, ◌≡◌}
 use lib.Dec.{leb}
 use Rattle.rules.specs.Lists.{every}
 use Rattle.rounding.proofs.lending.cells_fit.Given as goal
 
-abbrev pub invariant-loop-i : goal.invariant-loop-i
-invariant-loop-i l = (l.i ≤ length l.cells) × (l.ok ≡ every l.i (λ j. leb (get_or l.cells j 0) 1000000))
-
-abbrev pub decreases-loop-i : goal.decreases-loop-i
-decreases-loop-i l = length l.cells - l.i
+abbrev pub invariant-loop-cell : goal.invariant-loop-cell
+invariant-loop-cell l = l.ok ≡ every l.cell-index (λ j. leb (get_or l.cells j 0) 1000000)

@@ -3,16 +3,16 @@ use Rattle.std.proofs.Common.{sym}
 use Rattle.rounding.proofs.laws.Settlings as laws
 use Rattle.rounding.proofs.settling.settle.Goals as goal
 
-pub returns-in_default-number : goal.returns-in_default-number
-returns-in_default-number c =
-    laws.numbered _ _ _ _ (sym c.if-not-is_known.ensures) _ c.in-Passes.ensures (sym c.in_default-number.ensures)
+pub returns-in_err-base : goal.returns-in_err-base
+returns-in_err-base c = rw c.from_residual.ensures
+    (laws.numbered _ _ _ _ (sym c.if-not-is_known.ensures) _ c.in-Some.ensures (rw c.try_from.ensures at c.in_err-base.ensures.value))
 
-pub returns-in_default-passing : goal.returns-in_default-passing
-returns-in_default-passing c =
-    laws.too_much _ _ _ _ (sym c.if-not-is_known.ensures) _ c.in-Passes.ensures _ (sym c.in-Known.ensures)
-    c.cell_at-cell.ensures c.pass-passing.ensures c.in_default-passing.is
+pub returns-in_err-passed : goal.returns-in_err-passed
+returns-in_err-passed c = rw c.from_residual-in_err-passed.ensures
+    (laws.too_much _ _ _ _ (sym c.if-not-is_known.ensures) _ c.in-Some.ensures _ (rw c.try_from.ensures at c.in_ok-base.ensures.value)
+    c.cell_of.ensures c.pass.ensures c.in_err-passed.was)
 
 pub returns : goal.returns
 returns c =
-    laws.passes _ _ _ _ (sym c.if-not-is_known.ensures) _ c.in-Passes.ensures _ (sym c.in-Known.ensures)
-    c.cell_at-cell.ensures c.pass-passing.ensures _ c.in-Passes-passing.is _ c.put.ensures
+    laws.passes _ _ _ _ (sym c.if-not-is_known.ensures) _ c.in-Some.ensures _ (rw c.try_from.ensures at c.in_ok-base.ensures.value)
+    c.cell_of.ensures c.pass.ensures _ c.in_ok-passed.was _ c.put.ensures
