@@ -1,5 +1,5 @@
 -- The definitions of specs/Taking, case by case, as the code meets them.
-use mathlib.Core.Path.{◌≡◌, refl, sym, ◌∙◌}
+use mathlib.Core.Path.{◌≡◌, refl, sym, ap, ◌∙◌}
 use mathlib.Core.List.{List, [], ◌∷◌, map}
 use Prim.Native.Nat.{ℕ, zero, suc, ◌+◌, ◌-◌, ◌<◌, ◌≤◌}
 use native.Mathlib.Omega.{arith}
@@ -45,6 +45,10 @@ pub found_within : (f : List ℕ) (tokens count : ℕ) {r : Result ℕ TableErro
     (count ≤ u) × (u ≤ tokens)
 unfolding find_of
 found_within f tokens count l e h = first_within (new_hold f count) tokens (tokens - count) (omega arith) (sym e ∙ h)
+
+-- answers that are the same have the same token and tables
+pub taken_parts : {o o' : Option ℕ} {t t' : Tables} → ◌≡◌ {A = Result Taken TableError} (Ok (taken o t)) (Ok (taken o' t')) → (o ≡ o') × (t ≡ t')
+taken_parts {o} {o'} {t} {t'} e = let same : taken o t ≡ taken o' t' = cc in (ap (λ a. a.token) same, ap (λ a. a.tables) same)
 
 -- what a code's answer and memory are to be, for an outcome
 abbrev pub Gives : List ℕ → Outcome State → Result Taken TableError → List ℕ → Type 0
