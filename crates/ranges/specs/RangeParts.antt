@@ -1,5 +1,5 @@
 -- The ranges of a state, in the parts that the code tests.
-use Rattle.std.specs.Prelude.{Bool, false, List, [], ◌∷◌, ℕ, zero, suc, ◌+◌, ◌-◌, leb, ltb, get_or}
+use Rattle.std.specs.Prelude.{Bool, false, List, [], ◌∷◌, ℕ, zero, suc, ◌+◌, ◌-◌, max, leb, ltb, get_or}
 use Rattle.rules.specs.Lists.{if, all, within, every, table}
 use Rattle.vocabulary.specs.declared.Slots.{Slots}
 use Rattle.rules.specs.RunState.{counter_at}
@@ -12,16 +12,10 @@ use Rattle.ranges.specs.declared.slots.Found.{Found}
 unfoldable pub every_from : ℕ → ℕ → (ℕ → Bool) → Bool
 every_from from to f = every (to - from) (λ i. f (from + i))
 
--- the larger and the smaller of two numbers, and the highest of a function's first values; 0 if there are none
-unfoldable pub larger : ℕ → ℕ → ℕ
-larger a b = if (ltb a b) b a
-
-unfoldable pub smaller : ℕ → ℕ → ℕ
-smaller a b = if (ltb b a) b a
-
+-- the highest of a function's first values; 0 if there are none
 unfoldable pub highest : ℕ → (ℕ → ℕ) → ℕ
 highest zero f = 0
-highest (suc n) f = larger (highest n f) (f n)
+highest (suc n) f = max (highest n f) (f n)
 
 -- P, L, N, W and the places
 unfoldable pub figures_sound : Figures → Bool
@@ -39,7 +33,7 @@ unfoldable pub highest_row : List ℕ → ℕ → ℕ → List ℕ
 highest_row counters from to = table 16 (λ p. highest (to - from) (λ i. get_or counters (counter_at (from + i) p) 0))
 
 unfoldable pub raised_row : List ℕ → List ℕ → ℕ → List ℕ
-raised_row counters row l = table 16 (λ p. larger (get_or row p 0) (get_or counters (counter_at l p) 0))
+raised_row counters row l = table 16 (λ p. max (get_or row p 0) (get_or counters (counter_at l p) 0))
 
 -- no number of a row is above that of another
 unfoldable pub row_within : List ℕ → List ℕ → Bool

@@ -1,8 +1,8 @@
 -- What a look over a state tells.
-use Rattle.std.specs.Prelude.{Bool, true, false, List, [], ◌∷◌, ℕ, leb, ltb}
+use Rattle.std.specs.Prelude.{Bool, Option, Some, None, List, [], ◌∷◌, ℕ, leb, ltb}
 use Rattle.rules.specs.Lists.{if, must, all, every}
 use Rattle.vocabulary.specs.declared.Slots.{Slots}
-use Rattle.rules.specs.RunState.{idle, slot_at}
+use Rattle.rules.specs.RunState.{slot_at}
 use Rattle.rules.specs.Choices.{at_work}
 use Rattle.rules.specs.Ranges.{counter_sound, sound}
 use Rattle.tables.specs.State as tables
@@ -33,13 +33,9 @@ rest_sound f counters mem =
 unfoldable pub near : ℕ → ℕ
 near line = if (ltb line 32) line 0
 
--- what is told of a state that is not sound: the chosen worker runs no line, and the chosen line is idle
-unfoldable pub spoiled : Survey
-spoiled = record { sound = false; busy = false; slot = idle }
-
--- "14 if .. a number in state or memory is outside its range": whether none is, and then whether the chosen worker runs a line and
--- what the chosen line does
-unfoldable pub survey_of : Figures → List ℕ → Slots → List ℕ → ℕ → ℕ → Survey
+-- "14 if .. a number in state or memory is outside its range": nothing is told then, and else whether the chosen worker runs a line
+-- and what the chosen line does
+unfoldable pub survey_of : Figures → List ℕ → Slots → List ℕ → ℕ → ℕ → Option Survey
 survey_of f counters slots mem worker line =
-    must (sound memory_source (machine_of (whole f counters slots) mem)) spoiled
-    (record { sound = true; busy = at_work slots worker f.lines; slot = slot_at slots (near line) })
+    must (sound memory_source (machine_of (whole f counters slots) mem)) None
+    (Some (record { busy = at_work slots worker f.lines; slot = slot_at slots (near line) }))

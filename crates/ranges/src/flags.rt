@@ -10,10 +10,7 @@ use state::FLAGS;
 fn flag_number(serial: bool) -> u8
     ensures { result ≡ if serial 2 0 }
 {
-    if serial {
-        return 2;
-    }
-    0
+    if serial { 2 } else { 0 }
 }
 
 // All flags as numbers.
@@ -21,10 +18,8 @@ fn flag_row(serial: &[bool; 16]) -> [u8; 16]
     ensures { result ≡ flag_row serial.now }
 {
     let mut row = [0; FLAGS];
-    let mut p: usize = 0;
-    while p < FLAGS {
+    for p in 0..FLAGS {
         row[p] = flag_number(serial[p]);
-        p += 1;
     }
     row
 }
@@ -34,8 +29,5 @@ pub(crate) fn flags_sound(serial: &[bool; 16], pipes: usize) -> bool
     requires { pipes ≤ 16 }
     ensures { result ≡ every 16 (flag_sound pipes serial.now) }
 {
-    if !rows::row_within(flag_row(serial), rows::pipe_row(pipes)) {
-        return false;
-    }
-    serial[0]
+    rows::row_within(flag_row(serial), rows::pipe_row(pipes)) && serial[0]
 }

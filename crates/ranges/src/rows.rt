@@ -3,7 +3,7 @@ ghost use Rattle.std.specs.Prelude.{◌≡◌, ◌≤◌};
 ghost use Rattle.ranges.specs.RangeParts.{pipe_row, row_within};
 
 use crate::joint;
-use state::{COUNTERS_OF_LINE, FLAGS};
+use state::FLAGS;
 
 // 2 for a pipe, and 0 for what is none: the row of a plan with P pipes begins P places before the middle.
 const PIPES_THEN_NONE: [u8; 32] = [
@@ -16,14 +16,9 @@ pub(crate) fn pipe_row(pipes: usize) -> [u8; 16]
     requires { pipes ≤ 16 }
     ensures { result ≡ pipe_row pipes }
 {
-    let all = PIPES_THEN_NONE;
     let from = FLAGS - pipes;
     let mut row = [0; FLAGS];
-    let mut p: usize = 0;
-    while p < FLAGS {
-        row[p] = all[from + p];
-        p += 1;
-    }
+    row.copy_from_slice(&PIPES_THEN_NONE[from..from + FLAGS]);
     row
 }
 
@@ -32,10 +27,8 @@ pub(crate) fn row_within(row: [u8; 16], most: [u8; 16]) -> bool
     ensures { result ≡ row_within row most }
 {
     let mut ok = true;
-    let mut p: usize = 0;
-    while p < COUNTERS_OF_LINE {
+    for p in 0..FLAGS {
         ok = joint::both(row[p] <= most[p], ok);
-        p += 1;
     }
     ok
 }

@@ -4,47 +4,32 @@ ghost use Rattle.std.specs.Prelude.{◌≡◌, true, false, [], ◌∷◌, ◌�
 ghost use Rattle.rules.specs.Lists.{if, must, all};
 ghost use Rattle.rules.specs.Choices.{run_by};
 ghost use Rattle.rules.specs.Ranges.{is_idle, is_loaded, worker_sound};
-ghost use Rattle.ranges.specs.RangeParts.{larger as larger_of, found_of};
+ghost use Rattle.ranges.specs.RangeParts.{found_of};
 
 use crate::joint;
-use state::SLOTS;
+use state::{SLOTS, slot_at};
 use vocabulary::{Slot, Slots};
 
-// What a walk over the slots finds: whether all are within their ranges, and whether the worker runs a line.
+// What a walk over the slots finds: whether all are within their ranges, and whether the worker runs a line. (Two tests that are found
+// together: neither says whether the other means anything.)
 #[derive(Clone, Copy)]
 pub struct Found {
     pub sound: bool,
     pub busy: bool,
 }
 
-// The larger of two numbers.
-fn larger(a: u16, b: u16) -> u16
-    ensures { result ≡ larger_of a b }
-{
-    if a < b {
-        return b;
-    }
-    a
-}
-
 // What a line's token and place must be below: N, or for a line that the plan does not have nothing.
 fn bound(used: bool, tokens: u16) -> u16
     ensures { result ≡ if used tokens 0 }
 {
-    if used {
-        return tokens;
-    }
-    0
+    if used { tokens } else { 0 }
 }
 
 // What a number of a line must be below: its bound where the line holds one, else 1, since 0 stands for none.
 fn limit(holds: bool, bound: u16) -> u16
     ensures { result ≡ if holds bound 1 }
 {
-    if holds {
-        return bound;
-    }
-    1
+    if holds { bound } else { 1 }
 }
 
 // A token or place of a line that runs or waits past pipe 0, or a worker of a line that runs; any other line has none. (One
@@ -61,7 +46,7 @@ fn load_sound(s: Slot, used: bool, pipes: u16, tokens: u16) -> bool
     ensures { result ≡ if (is_idle s) true (all (used ∷ is_loaded pipes tokens s ∷ [])) }
 {
     let loaded = joint::either(s.running, 0 < s.pipe.0);
-    let held = larger(s.token.0, s.place.0);
+    let held = s.token.0.max(s.place.0);
     let fits = held_sound(loaded, held, bound(used, tokens));
     joint::both(s.pipe.0 < pipes, fits)
 }
@@ -97,20 +82,12 @@ pub(crate) fn walk(
     let mut sound = true;
     let mut busy = false;
     let mut line: u16 = 0;
-    let mut l: usize = 0;
-    while l < SLOTS {
-        let slot = Slot {
-            pipe: slots.at[l],
-            running: slots.running[l],
-            token: slots.token[l],
-            place: slots.place[l],
-            worker: slots.worker[l],
-        };
+    for l in 0..SLOTS {
+        let slot = slot_at(&slots, l);
         let used = line < lines;
         sound = joint::both(slot_sound(slot, used, pipes, tokens, workers), sound);
         busy = joint::either(run_by(slot, worker), busy);
         line += 1;
-        l += 1;
     }
     Found { sound, busy }
 }

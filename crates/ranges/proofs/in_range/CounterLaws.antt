@@ -2,7 +2,7 @@
 use mathlib.Core.Path.{◌≡◌, sym, ◌∙◌}
 use mathlib.Core.Bool.{Bool, false}
 use mathlib.Core.List.{List}
-use Prim.Native.Nat.{ℕ, ◌+◌, ◌*◌, ◌/◌, ◌%◌, ◌<◌, ◌≤◌}
+use Prim.Native.Nat.{ℕ, ◌+◌, ◌*◌, ◌/◌, ◌%◌, ◌<◌, ◌≤◌, min}
 use native.Mathlib.Omega.{arith}
 use borrow.Author.Tests.{lt-ltb, le-ltb}
 use lib.Dec.{leb}
@@ -11,7 +11,7 @@ use Rattle.rules.specs.Lists.{if, every, table}
 use Rattle.rules.specs.RunState.{counter_at, full}
 use Rattle.rules.specs.Ranges.{most_at, counter_sound}
 use Rattle.rules.proofs.lists.ListTables.{get_d_table}
-use Rattle.ranges.specs.RangeParts.{smaller, pipe_row, highest_row, row_within}
+use Rattle.ranges.specs.RangeParts.{pipe_row, highest_row, row_within}
 use Rattle.ranges.proofs.in_range.Rows.{every_same, every_rows, every_parts, from_none}
 use Rattle.rules.proofs.lists.Tests.{by_test, lower, upper, below}
 use Rattle.ranges.proofs.in_range.FlagLaws.{get_d_pipes}
@@ -19,8 +19,8 @@ use Rattle.ranges.proofs.in_range.Highest.{within_each}
 
 -- the most at a pipe, by the row of pipes and the full value
 pub most_is : (pipes : ℕ) (serial : List Bool) (p : ℕ) → p < 16 →
-    smaller (get_or (pipe_row pipes) p 0) (full (get_or serial p false)) ≡ most_at pipes 1 serial 0 p
-unfolding smaller most_at
+    min (get_or (pipe_row pipes) p 0) (full (get_or serial p false)) ≡ most_at pipes 1 serial 0 p
+unfolding most_at
 most_is pipes serial p h = elim (below p pipes) [
   | lower k t ↦ rw (get_d_pipes pipes p h, t) (by_test (get_or serial p false) (λ e. rw e) (λ e. rw e))
   | upper k t ↦ rw (get_d_pipes pipes p h, t) (by_test (get_or serial p false) (λ e. rw e) (λ e. rw e))

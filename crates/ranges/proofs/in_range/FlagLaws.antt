@@ -6,7 +6,9 @@ use Prim.Native.Nat.{ℕ, ◌+◌, ◌-◌, ◌<◌, ◌≤◌}
 use native.Mathlib.Omega.{arith}
 use borrow.Author.Tests.{lt-ltb, le-ltb, eqb-true}
 use lib.Dec.{ltb, leb, eqb}
-use lib.ListN.{length, get_or}
+use lib.ListN.{length, get_or, take, drop, length-drop}
+use lib.Seq.{ext_get_or}
+use Rattle.std.proofs.lemmas.List.{get_or-take, get_or-drop, length-take-le}
 use Rattle.rules.specs.Lists.{if, every}
 use Rattle.rules.specs.Ranges.{serial_sound}
 use Rattle.rules.proofs.lists.EveryBelow.{every_fails}
@@ -46,7 +48,7 @@ unfolding every
 all_placed = refl
 
 -- so a plan's row can be read off it
-pub windowed : (pipes p : ℕ) → pipes ≤ 16 → p < 16 → get_or pipes_then_none (16 - pipes + p) 0 ≡ get_or (pipe_row pipes) p 0
+windowed : (pipes p : ℕ) → pipes ≤ 16 → p < 16 → get_or pipes_then_none (16 - pipes + p) 0 ≡ get_or (pipe_row pipes) p 0
 windowed pipes p some h =
     let i : ℕ = 16 - pipes + p in
     eqb-true (get_or pipes_then_none i 0) (if (ltb i 16) 2 0) (every_at 32 i as_placed (omega arith) all_placed) ∙
@@ -54,6 +56,14 @@ windowed pipes p some h =
       | lower k t ↦ rw (get_d_pipes pipes p h, t, lt-ltb i 16 (omega arith))
       | upper k t ↦ rw (get_d_pipes pipes p h, t, le-ltb i 16 (omega arith))
     ]
+
+pub window_is : (pipes n : ℕ) → pipes ≤ 16 → n ≡ 16 → take n (drop (16 - pipes) pipes_then_none) ≡ pipe_row pipes
+window_is pipes n some n_is =
+    let rest : List ℕ = drop (16 - pipes) pipes_then_none in
+    let long : length (take n rest) ≡ 16 = rw n_is (length-take-le 16 rest (omega (arith, length-drop (16 - pipes) pipes_then_none))) in
+    ext_get_or 0 (take n rest) (pipe_row pipes) (long ∙ sym (length_pipes pipes)) (λ p h.
+    let less : p < 16 = omega (arith, long) in
+    get_or-take n rest p 0 (omega arith) ∙ get_or-drop (16 - pipes) pipes_then_none p 0 ∙ windowed pipes p some less)
 
 -- a flag is within the row of pipes if it is not set, or its pipe is one
 one_flag : (a b : Bool) → leb (if a 2 0) (if b 2 0) ≡ if a b true

@@ -5,6 +5,7 @@ use mathlib.Core.List.{List, [], ◌∷◌, ◌++◌}
 use Prim.Native.Nat.{ℕ, ◌≤◌}
 use borrow.Author.Tests.{leb-true, le-leb}
 use lib.Dec.{leb}
+use Rattle.std.specs.Prelude.{Some, None}
 use lib.ListN.{get_or}
 use Rattle.rules.specs.Lists.{if, all, every, within}
 use Rattle.rules.specs.Ranges.{sound, numbers_sound, serial_sound, slot_sound, counter_sound}
@@ -19,7 +20,7 @@ use Rattle.state.specs.declared.Figures.{Figures}
 use Rattle.ranges.specs.declared.slots.Found.{Found}
 use Rattle.state.specs.Machines.{machine_of, whole}
 use Rattle.ranges.specs.RangeParts.{figures_sound, flag_sound, found_of}
-use Rattle.ranges.specs.Surveys.{rows_sound, rest_sound, near, spoiled, survey_of}
+use Rattle.ranges.specs.Surveys.{rows_sound, rest_sound, near, survey_of}
 use Rattle.ranges.proofs.in_range.FlagLaws.{flags_are}
 use Rattle.ranges.proofs.in_range.SlotLaws.{works_all}
 
@@ -125,7 +126,7 @@ module _ (f : Figures) (counters : List ℕ) (slots : Slots) (mem : List ℕ) wh
 
   -- what is told of the state
   module _ (worker line : ℕ) where
-    pub rest_fails : {b : Bool} → b ≡ rest_sound f counters mem → b ≡ false → spoiled ≡ survey_of f counters slots mem worker line
+    pub rest_fails : {b : Bool} → b ≡ rest_sound f counters mem → b ≡ false → None ≡ survey_of f counters slots mem worker line
     unfolding survey_of
     rest_fails b_is e = rw (sound_is, sym b_is ∙ e)
 
@@ -135,7 +136,7 @@ module _ (f : Figures) (counters : List ℕ) (slots : Slots) (mem : List ℕ) wh
       unfolding found_of
       slots_are = ap (λ t. t.sound) found_is
 
-      pub slots_fail : found.sound ≡ false → spoiled ≡ survey_of f counters slots mem worker line
+      pub slots_fail : found.sound ≡ false → None ≡ survey_of f counters slots mem worker line
       unfolding survey_of
       slots_fail e = rw (sound_is, sym b_is ∙ ok, sym slots_are ∙ e)
 
@@ -146,6 +147,6 @@ module _ (f : Figures) (counters : List ℕ) (slots : Slots) (mem : List ℕ) wh
           works_all slots worker f.pipes f.lines f.tables.tokens f.workers 32 (lines_most f (figures_ok f counters mem b_is ok)) (sym slots_are ∙ e)
 
       pub told : found.sound ≡ true → {at : ℕ} → at ≡ near line →
-          record { sound = true; busy = found.busy; slot = slot_at slots at } ≡ survey_of f counters slots mem worker line
+          Some (record { busy = found.busy; slot = slot_at slots at }) ≡ survey_of f counters slots mem worker line
       unfolding survey_of
       told e at-is = rw (sound_is, sym b_is ∙ ok, sym slots_are ∙ e, busy_is e, at-is)

@@ -3,7 +3,7 @@ use mathlib.Core.Path.{◌≡◌, refl, sym}
 use mathlib.Core.Bool.{Bool, true, false, not, true≢false}
 use mathlib.Core.List.{[], ◌∷◌}
 use mathlib.Core.Logic.{by_cases}
-use Prim.Native.Nat.{ℕ, zero, suc, ◌+◌, ◌<◌, ◌≤◌}
+use Prim.Native.Nat.{ℕ, zero, suc, ◌+◌, ◌<◌, ◌≤◌, max}
 use native.Mathlib.Omega.{arith}
 use native.Mathlib.Numerals.{add-one}
 use native.Mathlib.Decide.{ℕ_discrete}
@@ -17,8 +17,8 @@ use Rattle.rules.specs.Choices.{run_by, at_work}
 use Rattle.rules.specs.Ranges.{is_idle, is_loaded, worker_sound, slot_sound}
 use Rattle.rules.proofs.lists.Holding.{first_holds, rest_hold}
 use Rattle.rules.proofs.lists.Tests.{by_test, same, other, same_as, lower, upper, below, if_same, pos_eqb}
-use Rattle.ranges.specs.RangeParts.{larger, found_of}
-use Rattle.ranges.proofs.in_range.Highest.{larger_ltb, larger_none}
+use Rattle.ranges.specs.RangeParts.{found_of}
+use Rattle.ranges.proofs.in_range.Highest.{max_ltb, max_none}
 
 module _ (slot : Slot) where
   -- an idle slot does not run
@@ -52,7 +52,7 @@ limit_is false held bound = elim (same_as held 0) [
 -- the code's test of one slot is that of the rules
 module _ (s : Slot) (used : Bool) (pipes tokens : ℕ) where
   abbrev held : ℕ
-  held = larger s.token.0 s.place.0
+  held = max s.token.0 s.place.0
 
   abbrev bound : ℕ
   bound = if used tokens 0
@@ -63,7 +63,7 @@ module _ (s : Slot) (used : Bool) (pipes tokens : ℕ) where
 
   below_bound : ltb held bound ≡ if used (if (ltb s.token.0 tokens) (ltb s.place.0 tokens) false) false
   below_bound = by_test used
-      (λ u. rw u (larger_ltb tokens s.token.0 s.place.0))
+      (λ u. rw u (max_ltb tokens s.token.0 s.place.0))
       (λ u. rw u (le-ltb held 0 (omega arith)))
 
   loaded_is : is_idle s ≡ false → if s.running true (ltb 0 s.pipe.0) ≡ true →
@@ -83,7 +83,7 @@ module _ (s : Slot) (used : Bool) (pipes tokens : ℕ) where
       asked ≡ if (is_idle s) true (all (used ∷ is_loaded pipes tokens s ∷ []))
   unfolding is_idle is_loaded
   waits_first some r z t =
-      rw (r, t, eq-eqb s.pipe.0 0 z, lt-ltb s.pipe.0 pipes (omega arith), larger_none s.token.0 s.place.0)
+      rw (r, t, eq-eqb s.pipe.0 0 z, lt-ltb s.pipe.0 pipes (omega arith), max_none s.token.0 s.place.0)
       (nothing_held used (eqb s.token.0 0) (eqb s.place.0 0))
 
   pub slot_is : 1 ≤ pipes → asked ≡ if (is_idle s) true (all (used ∷ is_loaded pipes tokens s ∷ []))

@@ -1,10 +1,7 @@
 -- The invariant: the row has the highest counters of the lines before `l`.
-use Rattle.std.proofs.Common.{◌≡◌, ◌-◌, ◌≤◌}
+use Rattle.std.proofs.Common.{◌≡◌}
 use Rattle.ranges.specs.RangeParts.{highest_row}
 use Rattle.ranges.proofs.counters.highest_row.Given as goal
 
 abbrev pub invariant-loop-l : goal.invariant-loop-l
-invariant-loop-l l = (l.from ≤ l.l) × (l.l ≤ l.to) × (l.row ≡ highest_row l.counters l.from l.l)
-
-abbrev pub decreases-loop-l : goal.decreases-loop-l
-decreases-loop-l l = l.to - l.l
+invariant-loop-l l = (l.row ≡ highest_row l.counters l.from l.l)

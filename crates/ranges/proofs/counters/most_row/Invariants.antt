@@ -1,5 +1,5 @@
 -- The invariant: the row is filled before `p`.
-use Rattle.std.proofs.Common.{◌≡◌, ◌-◌, ◌≤◌, length}
+use Rattle.std.proofs.Common.{◌≡◌}
 use Rattle.rules.specs.Lists.{table}
 use Rattle.rules.specs.Ranges.{most_at}
 use Rattle.ranges.specs.RangeParts.{pipe_row}
@@ -8,7 +8,4 @@ use Rattle.ranges.proofs.counters.most_row.Given as goal
 
 abbrev pub invariant-loop-p : goal.invariant-loop-p
 invariant-loop-p l =
-    (l.p ≤ 16) × (l.known ≡ pipe_row l.pipes) × (length l.most ≡ 16) × Filled (table 16 (most_at l.pipes 1 l.serial 0)) l.most l.p
-
-abbrev pub decreases-loop-p : goal.decreases-loop-p
-decreases-loop-p l = 16 - l.p
+    (l.known ≡ pipe_row l.pipes) × Filled (table 16 (most_at l.pipes 1 l.serial 0)) l.most l.p

@@ -1,21 +1,17 @@
 -- Each pipe's higher counter is stored.
-use Rattle.std.proofs.Common.{refl, sym, ◌∙◌, arith}
-use lib.ListN.{length-set}
-use Rattle.state.proofs.in_range.Filling.{filled_first, filled_store, filled_all}
-use Rattle.ranges.proofs.in_range.Highest.{length_raised, get_d_raised}
+use Rattle.std.proofs.Common.{arith}
+use Rattle.ranges.specs.RangeParts.{raised_row}
+use Rattle.state.proofs.in_range.Filling.{row_first, row_store, row_full}
 use Rattle.ranges.proofs.counters.raised.Goals as goal
 
 pub loop-p-init : goal.loop-p-init
-loop-p-init c = (omega arith, refl, filled_first _ 16 (length_raised _ _ _))
+unfolding raised_row
+loop-p-init c = row_first _
 
 pub loop-p-preserved : goal.loop-p-preserved
-loop-p-preserved c = (
-  omega arith,
-  simp length-set c.loop-p.invariant.1,
-  filled_store c.loop-p.invariant.2 (omega arith)
-      (c.larger.ensures ∙ sym (get_d_raised _ _ _ c.loop-p.p (omega arith))),
-)
+unfolding raised_row
+loop-p-preserved c = row_store _ c.loop-p.invariant (omega arith) c.max.ensures
 
 pub returns : goal.returns
-returns c =
-    filled_all c.loop-p.invariant.2 (λ j h k. absurd (omega (arith, length_raised c.args.counters.now c.args.row c.args.l)))
+unfolding raised_row
+returns c = row_full _ c.loop-p.invariant (omega arith)

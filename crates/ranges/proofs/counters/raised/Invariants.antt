@@ -1,11 +1,7 @@
 -- The invariant: the new row is filled before `p`.
-use Rattle.std.proofs.Common.{◌≡◌, ◌-◌, ◌≤◌, length}
 use Rattle.ranges.specs.RangeParts.{raised_row}
 use Rattle.state.proofs.in_range.Filling.{Filled}
 use Rattle.ranges.proofs.counters.raised.Given as goal
 
 abbrev pub invariant-loop-p : goal.invariant-loop-p
-invariant-loop-p l = (l.p ≤ 16) × (length l.next ≡ 16) × Filled (raised_row l.counters l.row l.l) l.next l.p
-
-abbrev pub decreases-loop-p : goal.decreases-loop-p
-decreases-loop-p l = 16 - l.p
+invariant-loop-p l = Filled (raised_row l.counters l.row l.l) l.next l.p

@@ -1,19 +1,17 @@
 -- Each flag is stored as a number.
-use Rattle.std.proofs.Common.{refl, sym, ◌∙◌, arith}
-use lib.ListN.{length-set}
-use Rattle.state.proofs.in_range.Filling.{filled_first, filled_store, filled_all}
-use Rattle.ranges.proofs.in_range.FlagLaws.{length_flags, get_d_flags}
+use Rattle.std.proofs.Common.{arith}
+use Rattle.ranges.specs.RangeParts.{flag_row}
+use Rattle.state.proofs.in_range.Filling.{row_first, row_store, row_full}
 use Rattle.ranges.proofs.flags.flag_row.Goals as goal
 
 pub loop-p-init : goal.loop-p-init
-loop-p-init c = (omega arith, refl, filled_first _ 16 (length_flags _))
+unfolding flag_row
+loop-p-init c = row_first _
 
 pub loop-p-preserved : goal.loop-p-preserved
-loop-p-preserved c = (
-  omega arith,
-  simp length-set c.loop-p.invariant.1,
-  filled_store c.loop-p.invariant.2 (omega arith) (c.flag_number.ensures ∙ sym (get_d_flags _ c.loop-p.p (omega arith))),
-)
+unfolding flag_row
+loop-p-preserved c = row_store _ c.loop-p.invariant (omega arith) c.flag_number.ensures
 
 pub returns : goal.returns
-returns c = filled_all c.loop-p.invariant.2 (λ j h k. absurd (omega (arith, length_flags c.args.serial.now)))
+unfolding flag_row
+returns c = row_full _ c.loop-p.invariant (omega arith)

@@ -1,6 +1,6 @@
 -- The invariant: `sound` says whether all slots below l are within their ranges, `busy` whether the worker runs one of these lines,
 -- and l is counted twice.
-use Rattle.std.proofs.Common.{◌≡◌, ◌-◌, ◌≤◌}
+use Rattle.std.proofs.Common.{◌≡◌}
 use Rattle.rules.specs.Lists.{every}
 use Rattle.rules.specs.Choices.{at_work}
 use Rattle.rules.specs.Ranges.{slot_sound}
@@ -8,8 +8,5 @@ use Rattle.ranges.proofs.slots.walk.Given as goal
 
 abbrev pub invariant-loop-l : goal.invariant-loop-l
 invariant-loop-l l =
-    (l.l ≤ 32) × (l.sound ≡ every l.l (slot_sound l.pipes l.lines l.tokens l.workers l.slots)) ×
+    (l.sound ≡ every l.l (slot_sound l.pipes l.lines l.tokens l.workers l.slots)) ×
     (l.busy ≡ at_work l.slots l.worker l.l) × (l.line ≡ l.l)
-
-abbrev pub decreases-loop-l : goal.decreases-loop-l
-decreases-loop-l l = 32 - l.l
