@@ -1,5 +1,5 @@
 -- The words of a text, by its first stop; and words with a stop in them, which are no numbers.
-use mathlib.Core.Path.{◌≡◌, refl, ap}
+use mathlib.Core.Path.{◌≡◌, refl}
 use mathlib.Core.Bool.{true, false}
 use mathlib.Core.List.{List, [], ◌∷◌}
 use Prim.Native.Nat.{ℕ}
@@ -10,9 +10,8 @@ use lib.ListN.{length}
 use Rattle.rules.specs.Lists.{has, within}
 use Rattle.rules.proofs.lists.Tests.{by_test, if_same}
 use Rattle.words.specs.Words.{up_to, past, words_in}
-use Rattle.words.specs.Numbers.{digits, number_of, shortened, short_of}
-use Rattle.words.specs.declared.Number.TheVariants.{Missing}
-use Rattle.words.specs.declared.ShortNumber as short
+use Rattle.words.specs.Numbers.{digits, number_of, short_of}
+use Rattle.std.specs.Prelude.{None}
 
 module _ (stop : ℕ) where
   -- without a stop there is one word
@@ -58,15 +57,15 @@ module _ (stop : ℕ) where
         by_test (eqb b stop) (λ t. rw (eqb-true b stop t, other))
         (λ t. rw (digits_not s (rw t at e)) (if_same (within 48 57 b) false))
 
-    number_not : (most : ℕ) (s : List ℕ) → has s stop ≡ true → number_of most s ≡ Missing
+    number_not : (most : ℕ) (s : List ℕ) → has s stop ≡ true → number_of most s ≡ None
     unfolding number_of
-    number_not most s e = rw (digits_not s e) (if_same (leb 1 (length s)) Missing)
+    number_not most s e = rw (digits_not s e) (if_same (leb 1 (length s)) None)
 
     -- is in no number
-    pub stop_in_none : (s : List ℕ) → has s stop ≡ true → short_of s ≡ short.TheVariants.Missing
-    stop_in_none s e = ap shortened (number_not 65535 s e)
+    pub stop_in_none : (s : List ℕ) → has s stop ≡ true → short_of s ≡ None
+    stop_in_none s e = number_not 65535 s e
 
 -- an empty word is none either
-pub none_in_empty : short_of [] ≡ short.TheVariants.Missing
+pub none_in_empty : short_of [] ≡ None
 unfolding number_of
 none_in_empty = refl

@@ -1,15 +1,17 @@
 -- Walks through a text: to its first stop, and along another text.
 use mathlib.Core.Path.{◌≡◌, refl, sym, ap, ◌∙◌}
-use mathlib.Core.Bool.{true, false}
 use mathlib.Core.List.{List, [], ◌∷◌}
-use Prim.Native.Nat.{ℕ, suc, ◌+◌, ◌-◌, ◌<◌, ◌≤◌}
+use Prim.Native.Nat.{ℕ, suc, ◌+◌, ◌-◌, ◌≤◌}
 use native.Mathlib.Omega.{arith}
 use native.Mathlib.Numerals.{add-one}
-use borrow.Author.Tests.{eq-eqb, ne_eqb, lt-ltb, le-ltb, ltb-true, ltb-false}
+use borrow.Author.Tests.{lt-ltb, le-ltb, ltb-true, ltb-false}
 use lib.Dec.{eqb, ltb}
-use lib.ListN.{length, get_or, take, drop, length-drop, drop_of_length-le}
-use lib.Seq.{drop-cons, drop-length, drop-nil, take_all}
+use lib.ListN.{length, take, drop, length-drop, drop_of_length-le}
+use lib.Seq.{drop-length, drop-nil, take_all}
 use Rattle.rules.specs.Lists.{has}
+use Rattle.std.specs.Prelude.{Option, position, unwrap_or, nat_eq, min}
+use Rattle.std.specs.List.{position_or_len}
+use Rattle.std.specs.Str.{bytes_eq}
 use Rattle.rules.proofs.lists.Tests.{by_test}
 use Rattle.words.specs.Words.{up_to, past, same}
 
@@ -50,43 +52,31 @@ module _ (stop : ℕ) where
   has_stop [] = refl
   has_stop (b ∷ s) = by_test (eqb b stop) (λ e. rw e (sym (lt-ltb 0 (length (b ∷ s)) (omega arith)))) (λ e. rw e (has_stop s ∙ sym (ltb_suc (length (up_to stop s)) (length s))))
 
-module _ (stop : ℕ) (text : List ℕ) (i : ℕ) where
-  -- another byte leads on
-  pub up_to_turn : i < length text → (get_or text i 0 ≡ stop → ⊥) →
-      length (up_to stop (drop i text)) ≡ 1 + length (up_to stop (drop (i + 1) text))
-  unfolding up_to
-  up_to_turn h n = rw (add-one, drop-cons text i 0 h, ne_eqb (get_or text i 0) stop n) (omega arith)
+-- where a search for the stop ends
+up_to_position : (stop : ℕ) (s : List ℕ) → position_or_len (λ b. nat_eq b stop) s ≡ length (up_to stop s)
+unfolding up_to
+up_to_position stop [] = refl
+up_to_position stop (b ∷ s) = let h = up_to_position stop s in by_test (eqb b stop) (λ e. rw e) (λ e. rw e (omega arith))
 
-  -- a stop ends the walk
-  pub up_to_stop : i < length text → get_or text i 0 ≡ stop → length (up_to stop (drop i text)) ≡ 0
-  unfolding up_to
-  up_to_stop h e = rw (drop-cons text i 0 h, eq-eqb (get_or text i 0) stop e)
+pub up_to_found : (stop : ℕ) (s : List ℕ) {found : Option ℕ} {n : ℕ} → found ≡ position (λ b. nat_eq b stop) s → n ≡ unwrap_or found (length s) →
+    n ≡ length (up_to stop s)
+up_to_found stop s found_is n-is =
+    let at = up_to_position stop s in
+    let fits = up_to_length stop s in
+    by_test (ltb (length (up_to stop s)) (length s)) (λ e. rw (n-is, found_is, at, e))
+    (λ e. rw (n-is, found_is, at, e) (omega (arith, ltb-false (length (up_to stop s)) (length s) e)))
 
-  -- and so does the end of the text
-  pub up_to_end : i ≤ length text → length text ≤ i → length (up_to stop (drop i text)) ≡ 0
-  unfolding up_to
-  up_to_end h k = let i-is : i ≡ length text = omega arith in rw (i-is, drop-length text)
+-- one behind the first stop, but no more than the text has
+pub past_at : (stop : ℕ) (s : List ℕ) → drop (min (length (up_to stop s) + 1) (length s)) s ≡ past stop s
+past_at stop s =
+    let end : ℕ = length (up_to stop s) in
+    by_test (ltb end (length s)) (λ e. let at : min (end + 1) (length s) ≡ end + 1 = omega (arith, ltb-true end (length s) e) in rw at (past_is stop s))
+    (λ e. let at : min (end + 1) (length s) ≡ length s = omega (arith, ltb-false end (length s) e) in rw at (past_end stop s (ltb-false end (length s) e)))
 
--- texts of different lengths differ
-pub same_sizes : (s t : List ℕ) → (length s ≡ length t → ⊥) → same s t ≡ false
+-- the bytes compared one by one
+pub same_is : (s t : List ℕ) → bytes_eq s t ≡ same s t
 unfolding same
-same_sizes [] [] n = absurd (n refl)
-same_sizes [] (c ∷ t) n = refl
-same_sizes (b ∷ s) [] n = refl
-same_sizes (b ∷ s) (c ∷ t) n =
-    by_test (eqb b c) (λ e. rw e (same_sizes s t (λ q. n (ap suc q)))) (λ e. rw e)
-
-module _ (s t : List ℕ) (i : ℕ) (h : i < length s) (k : i < length t) where
-  -- two texts at a byte
-  pub same_turn : get_or s i 0 ≡ get_or t i 0 → same (drop i s) (drop i t) ≡ same (drop (i + 1) s) (drop (i + 1) t)
-  unfolding same
-  same_turn e = rw (add-one, drop-cons s i 0 h, drop-cons t i 0 k, eq-eqb (get_or s i 0) (get_or t i 0) e)
-
-  pub same_not : (get_or s i 0 ≡ get_or t i 0 → ⊥) → same (drop i s) (drop i t) ≡ false
-  unfolding same
-  same_not n = rw (drop-cons s i 0 h, drop-cons t i 0 k, ne_eqb (get_or s i 0) (get_or t i 0) n)
-
--- and at their end
-pub same_end : (s t : List ℕ) (i : ℕ) → i ≡ length s → length s ≡ length t → same (drop i s) (drop i t) ≡ true
-unfolding same
-same_end s t i i-is e = rw (i-is, drop-length s, e, drop-length t)
+same_is [] [] = refl
+same_is [] (c ∷ t) = refl
+same_is (b ∷ s) [] = refl
+same_is (b ∷ s) (c ∷ t) = let h = same_is s t in by_test (eqb b c) (λ e. rw e h) (λ e. rw e)
