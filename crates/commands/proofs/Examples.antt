@@ -5,7 +5,7 @@ use Prim.Native.Nat.{ℕ}
 use Rattle.rules.specs.Lists.{has, within}
 use Rattle.words.specs.Words.{up_to, past, same, words_in}
 use Rattle.words.specs.Numbers.{digits, value_from, number_of}
-use Rattle.commands.specs.Commands.{figures_word, sum_word, ended_word, quit_word, plan_word, open_word, choose_word, offer_word, take_word, mark_word, alone_of, is_path, plan_of, plain_of, rounded_of, open_of, choose_of, offer_of, started_of, finished_of, stopped_of, event_of, take_of, mark_of, arguments_of, command_of}
+use Rattle.commands.specs.Commands.{figures_word, sum_word, ended_word, quit_word, plan_word, open_word, choose_word, offer_word, take_word, mark_word, alone_of, is_path, plan_of, plain_of, rounded_of, open_of, choice_in, stop_in, event_of, event_in, mark_of, arguments_of, asked_of, command_of}
 use Rattle.commands.specs.Arguments.{space, pair_in, step_in}
 use Rattle.vocabulary.specs.declared.event.Event.{Event}
 use Rattle.commands.specs.declared.Command.{Command}
@@ -98,5 +98,5 @@ asked =
     []
 
 pub some_lines : map command_of lines ≡ asked
-unfolding command_of alone_of arguments_of is_path plan_of plain_of rounded_of open_of choose_of offer_of started_of finished_of stopped_of event_of take_of mark_of pair_in step_in up_to past same words_in has within digits value_from number_of
+unfolding command_of asked_of alone_of arguments_of is_path plan_of plain_of rounded_of open_of choice_in stop_in event_of event_in mark_of pair_in step_in up_to past same words_in has within digits value_from number_of
 some_lines = refl

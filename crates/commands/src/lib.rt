@@ -7,11 +7,9 @@ mod taking;
 
 ghost use Rattle.std.specs.Prelude.{◌≡◌, ◌+◌, ◌≤◌, length};
 ghost use Rattle.commands.specs.Arguments.{words_in};
-ghost use Rattle.commands.specs.Commands.{alone_of, is_path, plan_of, choose_of, offer_of, mark_of, arguments_of, command_of};
+ghost use Rattle.commands.specs.Commands.{alone_of, is_path, plan_of, choice_in, mark_of, arguments_of, asked_of, command_of};
 
-use numbers::Pair;
 use vocabulary::{Event, Line, Pipe, Worker};
-use words::ShortNumber;
 
 // A choice names a worker and a line.
 #[derive(Clone, Copy)]
@@ -60,22 +58,20 @@ pub const MOST_OF_LINE: usize = 8191;
 
 // A command of one word.
 #[tactic(auto, unfolding(crate::specs::Commands::alone_of))]
-fn alone(word: &[u8]) -> Command
+fn alone(word: &[u8]) -> Option<Command>
     ensures { result ≡ alone_of word.now }
 {
     if words::same(word, b"figures") {
-        return Command::Figures;
+        Some(Command::Figures)
+    } else if words::same(word, b"sum") {
+        Some(Command::Sum)
+    } else if words::same(word, b"ended") {
+        Some(Command::Ended)
+    } else if words::same(word, b"quit") {
+        Some(Command::Quit)
+    } else {
+        None
     }
-    if words::same(word, b"sum") {
-        return Command::Sum;
-    }
-    if words::same(word, b"ended") {
-        return Command::Ended;
-    }
-    if words::same(word, b"quit") {
-        return Command::Quit;
-    }
-    Command::Unknown
 }
 
 // Whether a text can be a path.
@@ -83,104 +79,76 @@ fn alone(word: &[u8]) -> Command
 fn is_path(text: &[u8]) -> bool
     ensures { result ≡ is_path text.now }
 {
-    if text.len() < 1 {
-        return false;
-    }
-    text.len() <= MOST_OF_PATH
+    (1..=MOST_OF_PATH).contains(&text.len())
 }
 
 // `plan PATH`
 #[tactic(auto, unfolding(crate::specs::Commands::plan_of))]
-fn plan_of(path: &[u8], start: usize) -> Command
+fn plan_of(path: &[u8], start: usize) -> Option<Command>
     ensures { result ≡ plan_of start path.now }
 {
-    if is_path(path) {
-        return Command::Plan(start);
-    }
-    Command::Unknown
+    is_path(path).then_some(Command::Plan(start))
 }
 
-// `choose WORKER LINE`
-#[tactic(auto, unfolding(crate::specs::Commands::choose_of))]
-fn choose_of(text: &[u8]) -> Command
-    ensures { result ≡ choose_of (words_in text.now) }
+// A worker and a line.
+#[tactic(auto, unfolding(crate::specs::Commands::choice_in))]
+fn read_choice(text: &[u8]) -> Option<Choice>
+    ensures { result ≡ choice_in (words_in text.now) }
 {
-    match numbers::read_pair(text) {
-        Pair::Values(two) => Command::Choose(Choice {
-            worker: Worker(two.first),
-            line: Line(two.second),
-        }),
-        Pair::Missing => Command::Unknown,
-    }
+    let two = numbers::read_pair(text)?;
+    Some(Choice {
+        worker: Worker(two.first),
+        line: Line(two.second),
+    })
 }
 
-// `offer WORKER LINE`
-#[tactic(auto, unfolding(crate::specs::Commands::offer_of))]
-fn offer_of(text: &[u8]) -> Command
-    ensures { result ≡ offer_of (words_in text.now) }
-{
-    match numbers::read_pair(text) {
-        Pair::Values(two) => Command::Offer(Choice {
-            worker: Worker(two.first),
-            line: Line(two.second),
-        }),
-        Pair::Missing => Command::Unknown,
-    }
-}
-
-// `mark W PATH`
-#[tactic(auto, using(crate::proofs::Paths::mark_unread))]
-fn mark_of(text: &[u8], start: usize) -> Command
+// W and PATH, as `mark W PATH` has them.
+#[tactic(auto, using(crate::proofs::Paths::mark_read, crate::proofs::Paths::mark_unread))]
+fn read_journal(text: &[u8], start: usize) -> Option<JournalAt>
     requires { start + length text.now ≤ 8191 }
     ensures { result ≡ mark_of start text.now }
 {
-    let at = words::find_past(text, b' ');
-    if !is_path(&text[at..]) {
-        return Command::Unknown;
+    let path = numbers::behind_word(text);
+    if !is_path(path) {
+        return None;
     }
-    match words::read_first(text, b' ') {
-        ShortNumber::Value(workers) => Command::Mark(JournalAt {
-            workers: workers,
-            start: start + at,
-        }),
-        ShortNumber::Missing => Command::Unknown,
-    }
+    let workers = words::read_first(text, b' ')?;
+    Some(JournalAt {
+        workers,
+        start: start + (text.len() - path.len()),
+    })
 }
 
 // A command with arguments: its first word, and the rest of the line, which starts there.
 #[tactic(auto, unfolding(crate::specs::Commands::arguments_of))]
-fn with_arguments(word: &[u8], start: usize, rest: &[u8]) -> Command
+fn with_arguments(word: &[u8], start: usize, rest: &[u8]) -> Option<Command>
     requires { start + length rest.now ≤ 8191 }
     ensures { result ≡ arguments_of word.now start rest.now }
 {
     if words::same(word, b"plan") {
-        return plan_of(rest, start);
+        plan_of(rest, start)
+    } else if words::same(word, b"open") {
+        opening::open_of(rest, start)
+    } else if words::same(word, b"choose") {
+        read_choice(rest).map(Command::Choose)
+    } else if words::same(word, b"offer") {
+        read_choice(rest).map(Command::Offer)
+    } else if words::same(word, b"take") {
+        taking::read_event(rest).map(Command::Take)
+    } else if words::same(word, b"mark") {
+        read_journal(rest, start).map(Command::Mark)
+    } else {
+        None
     }
-    if words::same(word, b"open") {
-        return opening::open_of(rest, start);
-    }
-    if words::same(word, b"choose") {
-        return choose_of(rest);
-    }
-    if words::same(word, b"offer") {
-        return offer_of(rest);
-    }
-    if words::same(word, b"take") {
-        return taking::take_of(rest);
-    }
-    if words::same(word, b"mark") {
-        return mark_of(rest, start);
-    }
-    Command::Unknown
 }
 
-// What a line asks for.
-#[tactic(auto, using(crate::proofs::Lines::command_long, crate::proofs::Lines::command_alone, crate::proofs::Lines::command_arguments))]
-pub fn parse(line: &[u8]) -> Command
-    ensures { result ≡ command_of line.now }
+// The command that a line is.
+#[tactic(auto, using(crate::proofs::Lines::asked_long, crate::proofs::Lines::asked_alone, crate::proofs::Lines::asked_arguments))]
+fn read(line: &[u8]) -> Option<Command>
+    ensures { result ≡ asked_of line.now }
 {
     if MOST_OF_LINE < line.len() {
-        return Command::Unknown;
+        return None;
     }
     let end = words::find(line, b' ');
     if line.len() <= end {
@@ -188,4 +156,12 @@ pub fn parse(line: &[u8]) -> Command
     }
     let start = end + 1;
     with_arguments(&line[..end], start, &line[start..])
+}
+
+// What a line asks for.
+#[tactic(auto, unfolding(crate::specs::Commands::command_of))]
+pub fn parse(line: &[u8]) -> Command
+    ensures { result ≡ command_of line.now }
+{
+    read(line).unwrap_or(Command::Unknown)
 }

@@ -1,72 +1,42 @@
 // `open`: a run, or one with rounding.
 ghost use Rattle.std.specs.Prelude.{◌≡◌, ◌+◌, ◌≤◌, length};
-ghost use Rattle.commands.specs.Commands.{plain_of, rounded_at, rounded_of, open_of};
+ghost use Rattle.commands.specs.Commands.{rounded_of, open_of};
 
-use crate::{Command, RoundingAt};
+use crate::{Command, RoundingAt, numbers};
 use vocabulary::Pipe;
-use words::ShortNumber;
 
-// `open W`
-#[tactic(auto, unfolding(crate::specs::Commands::plain_of))]
-fn plain_of(text: &[u8]) -> Command
-    ensures { result ≡ plain_of text.now }
-{
-    match words::read_short(text) {
-        ShortNumber::Value(n) => Command::Open(n),
-        ShortNumber::Missing => Command::Unknown,
-    }
-}
-
-// W, PIPE and BASE, if all are numbers, with the start of the path.
-fn rounded_at(start: usize, workers: ShortNumber, pipe: ShortNumber, base: ShortNumber) -> Command
-    ensures { result ≡ rounded_at start workers pipe base }
-{
-    match workers {
-        ShortNumber::Value(w) => match pipe {
-            ShortNumber::Value(p) => match base {
-                ShortNumber::Value(b) => Command::OpenRounded(RoundingAt {
-                    workers: w,
-                    pipe: Pipe(p),
-                    base: b,
-                    start: start,
-                }),
-                ShortNumber::Missing => Command::Unknown,
-            },
-            ShortNumber::Missing => Command::Unknown,
-        },
-        ShortNumber::Missing => Command::Unknown,
-    }
-}
-
-// `open W PIPE BASE PATH`
-#[tactic(auto, using(crate::proofs::Openings::rounded_read, crate::proofs::Openings::rounded_unread, crate::proofs::Arguments::rest_at))]
-fn rounded_of(text: &[u8], start: usize) -> Command
+// W, PIPE, BASE and PATH, as `open W PIPE BASE PATH` has them.
+#[tactic(auto, using(crate::proofs::Openings::rounded_read, crate::proofs::Openings::rounded_unread))]
+fn read_rounding(text: &[u8], start: usize) -> Option<RoundingAt>
     requires { start + length text.now ≤ 8191 }
     ensures { result ≡ rounded_of start text.now }
 {
-    let from_pipe = &text[words::find_past(text, b' ')..];
-    let from_base = &from_pipe[words::find_past(from_pipe, b' ')..];
-    let path = &from_base[words::find_past(from_base, b' ')..];
-    if crate::is_path(path) {
-        return rounded_at(
-            start + (text.len() - path.len()),
-            words::read_first(text, b' '),
-            words::read_first(from_pipe, b' '),
-            words::read_first(from_base, b' '),
-        );
+    let from_pipe = numbers::behind_word(text);
+    let from_base = numbers::behind_word(from_pipe);
+    let path = numbers::behind_word(from_base);
+    if !crate::is_path(path) {
+        return None;
     }
-    Command::Unknown
+    let workers = words::read_first(text, b' ')?;
+    let pipe = words::read_first(from_pipe, b' ')?;
+    let base = words::read_first(from_base, b' ')?;
+    Some(RoundingAt {
+        workers,
+        pipe: Pipe(pipe),
+        base,
+        start: start + (text.len() - path.len()),
+    })
 }
 
 // What follows `open`.
 #[tactic(auto, using(crate::proofs::Openings::open_plain, crate::proofs::Openings::open_rounded))]
-pub(crate) fn open_of(text: &[u8], start: usize) -> Command
+pub(crate) fn open_of(text: &[u8], start: usize) -> Option<Command>
     requires { start + length text.now ≤ 8191 }
     ensures { result ≡ open_of start text.now }
 {
-    let end = words::find(text, b' ');
-    if text.len() <= end {
-        return plain_of(text);
+    if text.contains(&b' ') {
+        read_rounding(text, start).map(Command::OpenRounded)
+    } else {
+        words::read_short(text).map(Command::Open)
     }
-    rounded_of(text, start)
 }
