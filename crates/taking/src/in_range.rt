@@ -7,24 +7,21 @@ ghost use Rattle.tables.specs.Taking.{find_of, watch_of, deferred_by, oldest_of,
 
 use facts::new_hold;
 use tables::{
-    Count, DEFERRED, DEFERRED_MARK, Hold, NO_MARK, Offer, READY, STANDINGS, TOKENS, Tables, Taken,
-    WATCHES,
+    DEFERRED, DEFERRED_MARK, NO_MARK, READY, STANDINGS, Spoiled, TOKENS, Tables, Taken, WATCHES,
 };
 
 // The first free token from Count on, or N where none is.
-fn find(mem: &[u16], tokens: u16, count: u16) -> Count
+fn find(mem: &[u16], tokens: u16, count: u16) -> Result<u16, Spoiled>
     requires lent_in_bounds { lent ≤ length mem.now }
     requires count_le_tokens { (count ≤ tokens) × (tokens ≤ most_tokens) }
     ensures { result ≡ find_of (facts_of mem.now) tokens count }
 {
     for token in count..tokens {
-        match new_hold(mem, count, token) {
-            Hold::Unsound => return Count::Unknown,
-            Hold::Free => return Count::Known(token),
-            Hold::By(_) => {}
+        if new_hold(mem, count, token)?.is_none() {
+            return Ok(token);
         }
     }
-    Count::Known(tokens)
+    Ok(tokens)
 }
 
 // Enters the tokens from `from` up to `to` in the cells from `at` on.
@@ -42,11 +39,7 @@ fn watch(mem: &[u16], count: u16, token: u16) -> u16
     requires { (lent ≤ length mem.now) × (token < most_tokens) }
     ensures { result ≡ watch_of (facts_of mem.now) count token }
 {
-    match new_hold(mem, count, token) {
-        Hold::Unsound => 0,
-        Hold::Free => 0,
-        Hold::By(number) => number,
-    }
+    new_hold(mem, count, token).unwrap_or(None).unwrap_or(0)
 }
 
 // Enters the watches of the tokens from Count up to `to` in the cells from `at` on.
@@ -81,38 +74,41 @@ fn defer(mem: &mut [u16], count: u16, held: u16, upto: u16)
 }
 
 // Takes the first free token, after deferring those before it.
-fn take_upto(mem: &mut [u16], t: Tables, upto: u16) -> Taken
+fn take_upto(mem: &mut [u16], t: Tables, upto: u16) -> Result<Taken, Spoiled>
     requires in_range { InRange t }
     requires count_le_upto { (t.count ≤ upto) × (upto ≤ t.tokens) }
     requires lent_in_bounds { lent ≤ length mem.old }
-    ensures answer { result ≡ taken_of (take_upto t mem.old (Count.Known upto)) }
-    ensures memory { mem.new ≡ taken_memory mem.old (take_upto t mem.old (Count.Known upto)) }
+    ensures answer { result ≡ taken_of (take_upto t mem.old (Ok upto)) }
+    ensures memory { mem.new ≡ taken_memory mem.old (take_upto t mem.old (Ok upto)) }
 {
     let passed = upto - t.count;
     let held = t.held + passed;
     if TOKENS < held {
-        return Taken::Spoiled;
+        return Err(Spoiled);
     }
     defer(mem, t.count, t.held, upto);
     if upto < t.tokens {
-        return Taken::Took(
-            upto,
-            Tables {
+        return Ok(Taken {
+            token: Some(upto),
+            tables: Tables {
                 count: upto + 1,
                 held,
                 ..t
             },
-        );
+        });
     }
-    Taken::Nothing(Tables {
-        count: upto,
-        held,
-        ..t
+    Ok(Taken {
+        token: None,
+        tables: Tables {
+            count: upto,
+            held,
+            ..t
+        },
     })
 }
 
 // Takes the oldest ready token.
-fn take_ready(mem: &mut [u16], t: Tables) -> Taken
+fn take_ready(mem: &mut [u16], t: Tables) -> Result<Taken, Spoiled>
     requires in_range { InRange t }
     requires first_lt_end { t.first < t.end }
     requires lent_in_bounds { lent ≤ length mem.old }
@@ -121,36 +117,36 @@ fn take_ready(mem: &mut [u16], t: Tables) -> Taken
 {
     let token = mem[READY + usize::from(t.first)];
     if t.tokens <= token {
-        return Taken::Spoiled;
+        return Err(Spoiled);
     }
     mem[STANDINGS + usize::from(token)] = NO_MARK;
-    Taken::Took(
-        token,
-        Tables {
+    Ok(Taken {
+        token: Some(token),
+        tables: Tables {
             first: t.first + 1,
             ..t
         },
-    )
+    })
 }
 
 // What taking up to the first free token would give.
-fn would_take_upto(t: Tables, upto: u16) -> Offer
+fn would_take_upto(t: Tables, upto: u16) -> Result<Option<u16>, Spoiled>
     requires in_range { InRange t }
     requires count_le_upto { (t.count ≤ upto) × (upto ≤ t.tokens) }
-    ensures { (m : List ℕ) → result ≡ offered_of (take_upto t m (Count.Known upto)) }
+    ensures { (m : List ℕ) → result ≡ offered_of (take_upto t m (Ok upto)) }
 {
     let passed = upto - t.count;
     if TOKENS < t.held + passed {
-        return Offer::Spoiled;
+        return Err(Spoiled);
     }
     if upto < t.tokens {
-        return Offer::Token(upto);
+        return Ok(Some(upto));
     }
-    Offer::Nothing
+    Ok(None)
 }
 
 // What taking would give.
-pub(crate) fn would_take(mem: &[u16], t: Tables) -> Offer
+pub(crate) fn would_take(mem: &[u16], t: Tables) -> Result<Option<u16>, Spoiled>
     requires in_range { InRange t }
     requires lent_in_bounds { lent ≤ length mem.now }
     ensures { result ≡ offered_of (take_of t mem.now) }
@@ -158,19 +154,16 @@ pub(crate) fn would_take(mem: &[u16], t: Tables) -> Offer
     if t.first < t.end {
         let token = mem[READY + usize::from(t.first)];
         if token < t.tokens {
-            return Offer::Token(token);
+            return Ok(Some(token));
         }
-        return Offer::Spoiled;
+        return Err(Spoiled);
     }
-    let found = find(mem, t.tokens, t.count);
-    let Count::Known(upto) = found else {
-        return Offer::Spoiled;
-    };
+    let upto = find(mem, t.tokens, t.count)?;
     would_take_upto(t, upto)
 }
 
 // Takes a token: the oldest ready one, else a new one.
-pub(crate) fn take(mem: &mut [u16], t: Tables) -> Taken
+pub(crate) fn take(mem: &mut [u16], t: Tables) -> Result<Taken, Spoiled>
     requires in_range { InRange t }
     requires lent_in_bounds { lent ≤ length mem.old }
     ensures answer { result ≡ taken_of (take_of t mem.old) }
@@ -179,9 +172,6 @@ pub(crate) fn take(mem: &mut [u16], t: Tables) -> Taken
     if t.first < t.end {
         return take_ready(mem, t);
     }
-    let found = find(mem, t.tokens, t.count);
-    let Count::Known(upto) = found else {
-        return Taken::Spoiled;
-    };
+    let upto = find(mem, t.tokens, t.count)?;
     take_upto(mem, t, upto)
 }

@@ -7,25 +7,25 @@ ghost use Rattle.std.specs.Prelude.{◌≡◌};
 ghost use Rattle.tables.specs.Taking.{taken_of, taken_memory, offered_of};
 ghost use Rattle.tables.specs.Calls.{safe_take};
 
-use tables::{Offer, Tables, Taken, sound};
+use tables::{Spoiled, Tables, Taken, sound};
 
 // What taking would give; nothing is written.
-pub fn would_take(mem: &[u16], t: Tables) -> Offer
+pub fn would_take(mem: &[u16], t: Tables) -> Result<Option<u16>, Spoiled>
     ensures { result ≡ offered_of (safe_take (t, mem.now)) }
 {
     if sound(mem, t) {
         return in_range::would_take(mem, t);
     }
-    Offer::Spoiled
+    Err(Spoiled)
 }
 
 // Takes a token: the oldest ready one, else a new one.
-pub fn take(mem: &mut [u16], t: Tables) -> Taken
+pub fn take(mem: &mut [u16], t: Tables) -> Result<Taken, Spoiled>
     ensures answer { result ≡ taken_of (safe_take (t, mem.old)) }
     ensures memory { mem.new ≡ taken_memory mem.old (safe_take (t, mem.old)) }
 {
     if sound(mem, t) {
         return in_range::take(mem, t);
     }
-    Taken::Spoiled
+    Err(Spoiled)
 }
