@@ -1,18 +1,20 @@
 // What the facts of the tokens, a part of the memory, say of one token.
-ghost use Rattle.std.specs.Prelude.{◌≡◌, ℕ, Bool, ◌<◌, ◌≤◌, length};
-ghost use Rattle.tables.specs.Layout.{deferred_at, most_tokens};
-ghost use Rattle.tables.specs.Facts.{standing_of, numbers_at, numbers_of, due_of, left_of, last_of, hold_of, new_hold, left_hold};
+ghost use Rattle.std.specs.Prelude.{◌≡◌, ℕ, Bool, ◌<◌};
+ghost use Rattle.tables.specs.Layout.{most_tokens};
+ghost use Rattle.tables.specs.Facts.{standing_of, numbers_at, numbers_of, due_of, left_of, last_of, hold_of};
 ghost use Rattle.facts.specs.{Answers};
 
 use tables::{
-    DEFERRED_MARK, FINISHED_MARK, NO_MARK, POSITIONS, Part, RECORD_NUMBERS, STANDINGS, Spoiled,
-    TOKENS,
+    DEFERRED, DEFERRED_MARK, FINISHED_MARK, NO_MARK, POSITIONS, Part, RECORD_NUMBERS, STANDINGS,
+    Spoiled, TOKENS,
 };
+
+// The facts of the tokens: the records, the positions and the standings.
+pub(crate) type Facts = [u16; DEFERRED];
 
 // A token's standing; 0 for a number that no token can have.
 #[tactic(auto, using(tables::proofs::memory::FactsLaws::standing_none), unfolding(tables::specs::Facts::standing_of))]
-fn standing(facts: &[u16], token: u16) -> u16
-    requires { length facts.now ≡ deferred_at }
+fn standing(facts: &Facts, token: u16) -> u16
     ensures { result ≡ standing_of facts.now token }
 {
     if token < TOKENS {
@@ -24,8 +26,7 @@ fn standing(facts: &[u16], token: u16) -> u16
 
 // Where the numbers of the record at a place stand: the place is 1 + the record's position, or 0 for no record.
 #[tactic(auto, unfolding(tables::specs::Facts::numbers_at))]
-fn numbers_at(facts: &[u16], place: usize) -> Result<Part, Spoiled>
-    requires { length facts.now ≡ deferred_at }
+fn numbers_at(facts: &Facts, place: usize) -> Result<Part, Spoiled>
     ensures { result ≡ numbers_at facts.now place }
 {
     if place == 0 {
@@ -44,9 +45,8 @@ fn numbers_at(facts: &[u16], place: usize) -> Result<Part, Spoiled>
 
 // Where a token's numbers stand.
 #[tactic(auto, unfolding(tables::specs::Facts::numbers_of))]
-fn numbers(facts: &[u16], token: u16) -> Result<Part, Spoiled>
-    requires facts_len { length facts.now ≡ deferred_at }
-    requires token_lt_most_tokens { token < most_tokens }
+fn numbers(facts: &Facts, token: u16) -> Result<Part, Spoiled>
+    requires { token < most_tokens }
     ensures { result ≡ numbers_of facts.now token }
 {
     let place = facts[POSITIONS + usize::from(token)];
@@ -55,8 +55,7 @@ fn numbers(facts: &[u16], token: u16) -> Result<Part, Spoiled>
 
 // Whether a number is due for a token newly taken at this Count.
 #[tactic(auto, unfolding(tables::specs::Facts::due_of))]
-fn is_due(facts: &[u16], count: u16, token: u16, number: u16) -> bool
-    requires { length facts.now ≡ deferred_at }
+pub(crate) fn is_due(facts: &Facts, count: u16, token: u16, number: u16) -> bool
     ensures { result ≡ due_of facts.now count token number }
 {
     standing(facts, number) == DEFERRED_MARK || (count <= number && number != token)
@@ -64,8 +63,7 @@ fn is_due(facts: &[u16], count: u16, token: u16, number: u16) -> bool
 
 // Whether a number is another than this token, and has not finished pipe 0.
 #[tactic(auto, unfolding(tables::specs::Facts::left_of))]
-fn is_left(facts: &[u16], past: u16, number: u16) -> bool
-    requires { length facts.now ≡ deferred_at }
+pub(crate) fn is_left(facts: &Facts, past: u16, number: u16) -> bool
     ensures { result ≡ left_of facts.now past number }
 {
     standing(facts, number) != FINISHED_MARK && number != past
@@ -81,40 +79,15 @@ fn last<F: Fn(u16) -> bool>(numbers: &[u16], passes: F) -> Option<u16>
 
 // What holds a token: the last of its numbers that passes a test.
 #[tactic(auto, using(tables::proofs::memory::FactsLaws::numbers_within), unfolding(tables::specs::Facts::hold_of, tables::specs::Facts::hold_as))]
-fn held_by<F: Fn(u16) -> bool>(facts: &[u16], token: u16, passes: F) -> Result<Option<u16>, Spoiled>
-    requires facts_len { length facts.now ≡ deferred_at }
+pub(crate) fn held_by<F: Fn(u16) -> bool>(
+    facts: &Facts,
+    token: u16,
+    passes: F,
+) -> Result<Option<u16>, Spoiled>
     requires token_lt_most_tokens { token < most_tokens }
     requires callable { F.IsAlwaysCallable passes }
     ensures { (test : ℕ → Bool) → Answers (F.post passes) test → result ≡ hold_of facts.now test token }
 {
     let part = numbers(facts, token)?;
     Ok(last(&facts[part.start..part.end], passes))
-}
-
-// What holds a new token: a number that is due.
-#[tactic(auto, unfolding(tables::specs::Facts::new_hold))]
-pub(crate) fn new_hold(facts: &[u16], count: u16, token: u16) -> Result<Option<u16>, Spoiled>
-    requires facts_len { length facts.now ≡ deferred_at }
-    requires token_lt_most_tokens { token < most_tokens }
-    ensures { result ≡ new_hold facts.now count token }
-{
-    held_by(facts, token, |number| is_due(facts, count, token, number))
-}
-
-// What still holds a deferred token, below N, once this one has finished.
-#[tactic(auto, unfolding(tables::specs::Facts::left_hold))]
-pub(crate) fn left_hold(
-    facts: &[u16],
-    tokens: u16,
-    past: u16,
-    token: u16,
-) -> Result<Option<u16>, Spoiled>
-    requires facts_len { length facts.now ≡ deferred_at }
-    requires tokens_le_most_tokens { tokens ≤ most_tokens }
-    ensures { result ≡ left_hold facts.now tokens past token }
-{
-    if tokens <= token {
-        return Err(Spoiled);
-    }
-    held_by(facts, token, |number| is_left(facts, past, number))
 }
