@@ -143,17 +143,16 @@ fn with_arguments(word: &[u8], start: usize, rest: &[u8]) -> Option<Command>
 }
 
 // The command that a line is.
-#[tactic(auto, using(crate::proofs::Lines::asked_long, crate::proofs::Lines::asked_alone, crate::proofs::Lines::asked_arguments))]
+#[tactic(auto, using(crate::proofs::Lines::asked_long, crate::proofs::Lines::asked_alone, crate::proofs::Lines::asked_arguments, crate::proofs::Lines::space_within))]
 fn read(line: &[u8]) -> Option<Command>
     ensures { result ≡ asked_of line.now }
 {
     if MOST_OF_LINE < line.len() {
         return None;
     }
-    let end = words::find(line, b' ');
-    if line.len() <= end {
+    let Some(end) = words::first(line, b' ') else {
         return alone(line);
-    }
+    };
     let start = end + 1;
     with_arguments(&line[..end], start, &line[start..])
 }

@@ -1,15 +1,15 @@
 -- Walks through a text: to its first stop, and along another text.
 use mathlib.Core.Path.{◌≡◌, refl, sym, ap, ◌∙◌}
 use mathlib.Core.List.{List, [], ◌∷◌}
-use Prim.Native.Nat.{ℕ, suc, ◌+◌, ◌-◌, ◌≤◌}
+use Prim.Native.Nat.{ℕ, suc, ◌+◌, ◌-◌, ◌<◌, ◌≤◌}
 use native.Mathlib.Omega.{arith}
 use native.Mathlib.Numerals.{add-one}
 use borrow.Author.Tests.{lt-ltb, le-ltb, ltb-true, ltb-false}
 use lib.Dec.{eqb, ltb}
 use lib.ListN.{length, take, drop, length-drop, drop_of_length-le}
 use lib.Seq.{drop-length, drop-nil, take_all}
-use Rattle.rules.specs.Lists.{has}
-use Rattle.std.specs.Prelude.{Option, position, unwrap_or, nat_eq, min}
+use Rattle.rules.specs.Lists.{has, must}
+use Rattle.std.specs.Prelude.{true, false, Option, Some, None, position, unwrap_or, nat_eq, min}
 use Rattle.std.specs.List.{position_or_len}
 use Rattle.std.specs.Str.{bytes_eq}
 use Rattle.rules.proofs.lists.Tests.{by_test}
@@ -58,13 +58,29 @@ unfolding up_to
 up_to_position stop [] = refl
 up_to_position stop (b ∷ s) = let h = up_to_position stop s in by_test (eqb b stop) (λ e. rw e) (λ e. rw e (omega arith))
 
+-- where the first stop is, if there is one
+pub first_is : (stop : ℕ) (s : List ℕ) → position (λ b. nat_eq b stop) s ≡ must (has s stop) None (Some (length (up_to stop s)))
+first_is stop s = rw (up_to_position stop s, ← has_stop stop s)
+
 pub up_to_found : (stop : ℕ) (s : List ℕ) {found : Option ℕ} {n : ℕ} → found ≡ position (λ b. nat_eq b stop) s → n ≡ unwrap_or found (length s) →
     n ≡ length (up_to stop s)
 up_to_found stop s found_is n-is =
-    let at = up_to_position stop s in
     let fits = up_to_length stop s in
-    by_test (ltb (length (up_to stop s)) (length s)) (λ e. rw (n-is, found_is, at, e))
-    (λ e. rw (n-is, found_is, at, e) (omega (arith, ltb-false (length (up_to stop s)) (length s) e)))
+    by_test (ltb (length (up_to stop s)) (length s)) (λ e. rw (n-is, found_is, first_is stop s, has_stop stop s, e))
+    (λ e. rw (n-is, found_is, first_is stop s, has_stop stop s, e) (omega (arith, ltb-false (length (up_to stop s)) (length s) e)))
+
+-- so without one it is nowhere, and else behind what stands before it
+pub first_none : (stop : ℕ) (s : List ℕ) → None ≡ position (λ b. nat_eq b stop) s → has s stop ≡ false
+first_none stop s e =
+    by_test (has s stop) (λ h. let q : ◌≡◌ {A = Option ℕ} None (Some (length (up_to stop s))) = rw (first_is stop s, h) at e in cc) (λ h. h)
+
+pub first_some : (stop : ℕ) (s : List ℕ) (n : ℕ) → Some n ≡ position (λ b. nat_eq b stop) s → (has s stop ≡ true) × (n ≡ length (up_to stop s)) × (n < length s)
+first_some stop s n e =
+    by_test (has s stop)
+    (λ h. let q : ◌≡◌ {A = Option ℕ} (Some n) (Some (length (up_to stop s))) = rw (first_is stop s, h) at e in
+    let n-is : n ≡ length (up_to stop s) = cc in
+    (h, n-is, omega (arith, ltb-true (length (up_to stop s)) (length s) (sym (has_stop stop s) ∙ h))))
+    (λ h. let q : ◌≡◌ {A = Option ℕ} (Some n) None = rw (first_is stop s, h) at e in cc)
 
 -- one behind the first stop, but no more than the text has
 pub past_at : (stop : ℕ) (s : List ℕ) → drop (min (length (up_to stop s) + 1) (length s)) s ≡ past stop s

@@ -5,8 +5,8 @@ ghost use Rattle.std.specs.Prelude.{◌≡◌, ◌≤◌, ◌==◌, length, drop
 ghost use Rattle.words.specs.Words.{up_to, past, same as same_of};
 ghost use Rattle.words.specs.Numbers.{number_of, short_of};
 
-// Where the first `stop` is.
-fn first(text: &[u8], stop: u8) -> Option<usize>
+// Where the first `stop` is, if there is one.
+pub fn first(text: &[u8], stop: u8) -> Option<usize>
     ensures { result ≡ position (λ b. b == stop) text.now }
 {
     text.iter().position(|b| *b == stop)
