@@ -1,13 +1,16 @@
 -- Fields and their bytes: each is made of the other again.
-use mathlib.Core.Path.{◌≡◌, refl, ap, ◌∙◌}
-use mathlib.Core.List.{List, [], ◌∷◌}
+use mathlib.Core.Path.{◌≡◌, refl, sym, ap, ◌∙◌}
+use mathlib.Core.List.{List, [], ◌∷◌, map}
 use Prim.Native.Nat.{ℕ, zero, suc, ◌+◌, ◌-◌, ◌*◌, ◌/◌, ◌%◌, ◌≤◌, ◌<◌}
 use native.Mathlib.Numerals.{add-one, add-two}
 use native.Mathlib.Omega.{arith}
 use borrow.Author.Tests.{le-leb, lt-leb}
-use lib.ListN.{length, take, drop, length-drop}
+use lib.ListN.{length, get_or, take, drop, length-drop}
 use lib.Seq.{get_or-drop, drop-cons}
-use Rattle.std.proofs.lemmas.List.{take_rest}
+use Rattle.std.proofs.lemmas.List.{take_rest, length-map, get_or-map}
+use mir.Syntax.{w16}
+use Rattle.std.specs.Int.{from_le_bytes}
+use Rattle.std.specs.Simd.{first_chunks}
 use Rattle.fields.specs.Bytes.{field_at, field_in, fields, field_bytes, Bytes}
 use Rattle.rules.specs.Lists.{Every}
 
@@ -47,6 +50,26 @@ module _ (s : List ℕ) (i : ℕ) where
 
   pub fields_end : length s ≤ i + 1 → fields (drop i s) ≡ []
   fields_end h = few_bytes (drop i s) (simp length-drop (omega arith))
+
+-- the fields are the numbers of the chunks of two bytes
+chunked : (n : ℕ) (s : List ℕ) → length s / 2 ≡ n → fields s ≡ map (from_le_bytes w16) (first_chunks 2 n s)
+unfolding fields
+chunked zero [] e = refl
+chunked zero (b ∷ []) e = refl
+chunked zero (b ∷ c ∷ s) e = absurd (omega arith)
+chunked (suc n) [] e = absurd (omega arith)
+chunked (suc n) (b ∷ []) e = absurd (omega arith)
+chunked (suc n) (b ∷ c ∷ s) e = rw (chunked n s (omega arith))
+
+module _ (s : List ℕ) {chunks : List (List ℕ)} (e : chunks ≡ first_chunks 2 (length s / 2) s) where
+  fields_are : fields s ≡ map (from_le_bytes w16) chunks
+  fields_are = chunked (length s / 2) s refl ∙ ap (map (from_le_bytes w16)) (sym e)
+
+  pub fields_count : length (fields s) ≡ length chunks
+  fields_count = ap length fields_are ∙ length-map chunks (from_le_bytes w16)
+
+  pub field_of : (i : ℕ) → i < length chunks → from_le_bytes w16 (get_or chunks i []) ≡ get_or (fields s) i 0
+  field_of i h = rw (fields_are, get_or-map (from_le_bytes w16) chunks i [] 0)
 
 -- a field's bytes, put together
 pub joined : (n : ℕ) → n % 256 + n / 256 * 256 ≡ n

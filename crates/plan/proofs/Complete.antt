@@ -6,7 +6,7 @@ use native.Mathlib.Omega.{arith}
 use lib.ListN.{length, drop, length-append, length-map}
 use lib.Seq.{take_at, drop_at, drop-drop}
 use Rattle.fields.specs.Bytes.{field_bytes}
-use Rattle.plan.specs.Checks.{both}
+use Rattle.plan.specs.Checks.{passed, both}
 use Rattle.plan.specs.Plan.{Plan, Valid, FirstSerial, records_bytes, header_of, trailer_fields, encode}
 use Rattle.vocabulary.specs.PipeKinds.{byte_of}
 use Rattle.rules.specs.Lists.{Every}
@@ -16,7 +16,6 @@ use Rattle.plan.specs.Records.{records_check, records_of}
 use Rattle.plan.specs.Reading.{record_part, pipe_part, parts_check, check_of, plan_with, plan_of}
 use Rattle.vocabulary.specs.declared.pipe_kind.PipeKind.{PipeKind}
 use Rattle.plan.specs.declared.trailer.Header.{Header}
-use Rattle.plan.specs.declared.verdict.Check.TheVariants.{Passed}
 use Rattle.fields.proofs.Fields.{joined, length_field_bytes}
 use Rattle.plan.proofs.Facts.{HeaderFacts, header_passes}
 use Rattle.plan.proofs.Steps.{after_size}
@@ -114,7 +113,7 @@ module _ (p : Plan) where
       tokens = v.tokens;
     }
 
-    records_read : (records_check h.tokens h.records (records_bytes p.records) ≡ Passed)
+    records_read : (records_check h.tokens h.records (records_bytes p.records) ≡ passed)
         × (records_of (suc (length (records_bytes p.records))) (records_bytes p.records) ≡ p.records)
     unfolding h
     records_read =
@@ -122,7 +121,7 @@ module _ (p : Plan) where
         v.records v.ascending (omega (arith, v.counts)) (omega arith) (omega (arith, length_records p.records))
 
     -- the plan's file passes
-    pub check_is : check_of (encode p) ≡ Passed
+    pub check_is : check_of (encode p) ≡ passed
     unfolding parts_check
     check_is =
         after_size (encode p) (omega (arith, length_encode)) size

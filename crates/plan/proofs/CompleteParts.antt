@@ -7,6 +7,7 @@ use borrow.Author.Tests.{le-leb, eq-eqb, ne_eqb}
 use lib.ListN.{length, length-append}
 use lib.Seq.{take_at, drop_at}
 use Rattle.fields.specs.Bytes.{field_bytes}
+use Rattle.plan.specs.Checks.{passed}
 use Rattle.plan.specs.Plan.{Record, ValidRecord, FirstSerial, AscendingFrom, total, record_bytes, records_bytes}
 use Rattle.vocabulary.specs.PipeKinds.{byte_of}
 use Rattle.rules.specs.Lists.{Every}
@@ -15,26 +16,25 @@ use Rattle.vocabulary.specs.PipeKinds.{kind_of}
 use Rattle.plan.specs.Records.{numbers_from, token_of, count_of, numbers_of, record_of, after_record, records_from, records_of}
 use Rattle.vocabulary.specs.declared.pipe_kind.PipeKind.{PipeKind}
 use Rattle.vocabulary.specs.declared.pipe_kind.PipeKind.TheVariants.{Serial, Parallel}
-use Rattle.plan.specs.declared.verdict.Check.TheVariants.{Passed}
 use Rattle.fields.proofs.Fields.{joined, bytes_fields, length_field_bytes}
 use Rattle.plan.proofs.Facts.{RecordFacts, record_passes}
 use Rattle.plan.proofs.Steps.{records_step, records_more}
 
 -- the bytes of kinds stand for them
-pub kinds_complete : (ks : List PipeKind) → (kinds_check (map byte_of ks) ≡ Passed) × (map kind_of (map byte_of ks) ≡ ks)
+pub kinds_complete : (ks : List PipeKind) → (kinds_check (map byte_of ks) ≡ passed) × (map kind_of (map byte_of ks) ≡ ks)
 unfolding kinds_check
 kinds_complete [] = (refl, refl)
 kinds_complete (Serial ∷ ks) = ((kinds_complete ks).0, ap (λ l. Serial ∷ l) (kinds_complete ks).1)
 kinds_complete (Parallel ∷ ks) = ((kinds_complete ks).0, ap (λ l. Parallel ∷ l) (kinds_complete ks).1)
 
 -- the pipe bytes of a plan pass
-pub pipes_complete : (ks : List PipeKind) → FirstSerial ks → pipes_check (map byte_of ks) ≡ Passed
+pub pipes_complete : (ks : List PipeKind) → FirstSerial ks → pipes_check (map byte_of ks) ≡ passed
 unfolding pipes_check
 pipes_complete [] h = absurd h
 pipes_complete (k ∷ ks) h = rw h (kinds_complete (Serial ∷ ks)).0
 
 -- numbers that ascend and are not the token pass
-numbers_complete : (token floor : ℕ) (ns : List ℕ) → AscendingFrom floor ns → Every (λ n. n ≡ token → ⊥) ns → numbers_from token floor ns ≡ Passed
+numbers_complete : (token floor : ℕ) (ns : List ℕ) → AscendingFrom floor ns → Every (λ n. n ≡ token → ⊥) ns → numbers_from token floor ns ≡ passed
 unfolding numbers_from
 numbers_complete token floor [] up others = refl
 numbers_complete token floor (n ∷ ns) up others =
@@ -86,8 +86,8 @@ module _ (r : Record) (s : List ℕ) where
 
   -- the record before records that pass, and before the records that a list spells
   more_pass : (tokens records most found floor before : ℕ) → RecordFacts tokens floor before t →
-      records_from tokens records most (suc found) (suc r.token) (before + length r.numbers) s ≡ Passed →
-      records_from tokens records (suc most) found floor before t ≡ Passed
+      records_from tokens records most (suc found) (suc r.token) (before + length r.numbers) s ≡ passed →
+      records_from tokens records (suc most) found floor before t ≡ passed
   more_pass tokens records most found floor before f e =
       rw (
         records_step tokens records most found floor before t (omega (arith, f.begun)),
@@ -106,7 +106,7 @@ module _ (tokens records : ℕ) where
   -- valid records pass, and their bytes spell them
   pub records_complete : (most found floor before : ℕ) (rs : List Record) → Every (ValidRecord tokens) rs →
       AscendingFrom floor (map (λ r. r.token) rs) → before + total rs ≤ 8192 → found + length rs ≡ records → length rs ≤ most →
-      (records_from tokens records (suc most) found floor before (records_bytes rs) ≡ Passed) × (records_of (suc most) (records_bytes rs) ≡ rs)
+      (records_from tokens records (suc most) found floor before (records_bytes rs) ≡ passed) × (records_of (suc most) (records_bytes rs) ≡ rs)
   unfolding records_from records_of records_bytes total
   records_complete most found floor before [] each up counts number enough = (rw (eq-eqb found records (omega arith)), refl)
   records_complete zero found floor before (r ∷ rs) each up counts number enough = absurd (omega arith)

@@ -1,9 +1,9 @@
 -- The reader reads exactly the files of valid plans. Reading order: what a passed check tells, and what makes it pass;
 pub mod Facts
--- the checks one step at a time, as the code makes them,
+-- what a range tells of a number in it;
+pub mod Ranges
+-- the checks one step at a time, as the code makes them;
 pub mod Steps
--- and a running total that is too large;
-pub mod Totals
 -- what passes is the file of a valid plan;
 pub mod SoundParts
 pub mod Sound

@@ -1,4 +1,5 @@
 -- Parts of a file that pass are the bytes of what they spell: pipe bytes and records.
+use Rattle.std.specs.Prelude.{Ok, Err}
 use mathlib.Core.Path.{◌≡◌, refl, sym, ◌∙◌}
 use mathlib.Core.Bool.{Bool, true, false}
 use mathlib.Core.List.{List, [], ◌∷◌, map}
@@ -10,6 +11,7 @@ use lib.ListN.{length, get_or, take, drop, length-drop, take-append-drop}
 use lib.Seq.{take-add, length-take-le}
 use Rattle.rules.specs.Lists.{if}
 use Rattle.fields.specs.Bytes.{field_bytes, Bytes}
+use Rattle.plan.specs.Checks.{passed}
 use Rattle.plan.specs.Plan.{Record, ValidRecord, FirstSerial, AscendingFrom, total, record_bytes, records_bytes}
 use Rattle.vocabulary.specs.PipeKinds.{byte_of}
 use Rattle.rules.specs.Lists.{Every}
@@ -17,8 +19,7 @@ use Rattle.plan.specs.Pipes.{kinds_check}
 use Rattle.vocabulary.specs.PipeKinds.{pipe_of, is_known, kind_of}
 use Rattle.plan.specs.Records.{numbers_from, token_of, count_of, numbers_of, record_of, after_record, records_from, records_of}
 use Rattle.vocabulary.specs.declared.pipe_kind.PipeKind.TheVariants.{Serial, Parallel}
-use Rattle.vocabulary.specs.declared.pipe_kind.PipeByte.TheVariants.{Known, Unknown}
-use Rattle.plan.specs.declared.verdict.Check.TheVariants.{Passed}
+use Rattle.vocabulary.specs.declared.refusal.Refusal.TheVariants.{Pipes}
 use Rattle.fields.proofs.Fields.{low, high, take_bytes, drop_bytes, fields_bytes, length_fields, fields_fit}
 use Rattle.plan.proofs.Facts.{failed, must_passed, both_passed, RecordFacts, record_passed}
 use Rattle.plan.proofs.Steps.{records_step, records_more}
@@ -28,13 +29,13 @@ known_byte : (b : ℕ) → is_known (pipe_of b) ≡ true → byte_of (kind_of b)
 known_byte b e = go (eqb b 83) (eqb b 80) refl refl e
   where
     go : (x y : Bool) → eqb b 83 ≡ x → eqb b 80 ≡ y →
-        is_known (if x (Known Serial) (if y (Known Parallel) Unknown)) ≡ true → byte_of (if x Serial Parallel) ≡ b
+        is_known (if x (Ok Serial) (if y (Ok Parallel) (Err Pipes))) ≡ true → byte_of (if x Serial Parallel) ≡ b
     go true y p q e = sym (eqb-true b 83 p)
     go false true p q e = sym (eqb-true b 80 q)
     go false false p q e = let z : ◌≡◌ {A = ℕ} 0 1 = cc in absurd (omega arith)
 
 -- known bytes are those of the kinds that they stand for
-pub kinds_sound : (s : List ℕ) → kinds_check s ≡ Passed → map byte_of (map kind_of s) ≡ s
+pub kinds_sound : (s : List ℕ) → kinds_check s ≡ passed → map byte_of (map kind_of s) ≡ s
 unfolding kinds_check
 kinds_sound [] e = refl
 kinds_sound (b ∷ s) e =
@@ -47,7 +48,7 @@ first_sound [] e = let z : ◌≡◌ {A = ℕ} 0 83 = eqb-true 0 83 e in omega a
 first_sound (b ∷ s) e = rw e
 
 -- numbers that pass ascend and are not the token
-numbers_sound_lem : (token floor : ℕ) (ns : List ℕ) → numbers_from token floor ns ≡ Passed →
+numbers_sound_lem : (token floor : ℕ) (ns : List ℕ) → numbers_from token floor ns ≡ passed →
     AscendingFrom floor ns × Every (λ n. n ≡ token → ⊥) ns
 unfolding numbers_from
 numbers_sound_lem token floor [] e = (tt, tt)
@@ -128,7 +129,7 @@ module _ (tokens records : ℕ) where
 
   -- records that pass are valid and spell the bytes
   pub records_sound : (most found floor before : ℕ) (s : List ℕ) → Bytes s → before ≤ 8192 →
-      records_from tokens records most found floor before s ≡ Passed → Sound tokens records found floor before s (records_of most s)
+      records_from tokens records most found floor before s ≡ passed → Sound tokens records found floor before s (records_of most s)
   unfolding records_from records_of
   records_sound zero found floor before s bs h e = absurd (failed _ e)
   records_sound (suc most) found floor before [] bs h e = none_sound found floor before h (eqb-true found records (must_passed _ _ _ e).0)

@@ -1,4 +1,5 @@
 -- One turn of each loop: what a check of a list says where its first elements are read at a place.
+use Rattle.std.specs.Prelude.{Ok, Err}
 use mathlib.Core.Path.{◌≡◌}
 use mathlib.Core.Bool.{not}
 use mathlib.Core.List.{List, ◌∷◌}
@@ -6,27 +7,25 @@ use Prim.Native.Nat.{ℕ, suc, ◌+◌, ◌-◌, ◌*◌, ◌≤◌, ◌<◌}
 use native.Mathlib.Numerals.{add-one}
 use native.Mathlib.Omega.{arith}
 use lib.Dec.{leb, eqb}
-use lib.ListN.{length, get_or, take, drop, drop_of_length-le, length-drop}
-use lib.Seq.{drop-cons, drop-drop, take_all}
+use lib.ListN.{length, get_or, drop, drop_of_length-le}
+use lib.Seq.{drop-cons}
 use borrow.Author.Tests.{lt-ltb, le-leb, ne_eqb}
-use Rattle.fields.specs.Bytes.{field_at, fields}
-use Rattle.fields.proofs.Fields.{fields_turn, fields_end}
 use Rattle.rules.specs.Lists.{must}
-use Rattle.plan.specs.Checks.{both}
+use Rattle.rules.proofs.lists.Tests.{by_test}
+use Rattle.vocabulary.specs.declared.refusal.Refusal.{Refusal}
+use Rattle.plan.specs.Checks.{passed, both}
 use Rattle.plan.specs.Trailer.{trailer_of, header_check}
 use Rattle.plan.specs.Pipes.{kinds_check}
 use Rattle.vocabulary.specs.PipeKinds.{is_known, pipe_of}
 use Rattle.plan.specs.Records.{numbers_from, token_of, count_of, numbers_of, after_record, record_check, records_from, record_of, records_of}
 use Rattle.plan.specs.Reading.{parts_check, check_of}
 use Rattle.vocabulary.specs.declared.pipe_kind.PipeKind.{PipeKind}
-use Rattle.vocabulary.specs.declared.pipe_kind.PipeByte.TheVariants.{Known, Unknown}
 use Rattle.vocabulary.specs.declared.refusal.Refusal.TheVariants.{Pipes, RecordLayout, ListsItself, TotalCount}
-use Rattle.plan.specs.declared.verdict.Check.TheVariants.{Passed, Failed}
 
 -- a record whose token, count and size are right: the running total, and then its numbers
 pub record_laid : (tokens floor before : ℕ) (s : List ℕ) → 4 ≤ length s → floor ≤ token_of s → token_of s < tokens → 1 ≤ count_of s → count_of s ≤ 16 →
     4 + 2 * count_of s ≤ length s →
-    record_check tokens floor before s ≡ must (leb (before + count_of s) 8192) (Failed TotalCount) (numbers_from (token_of s) 0 (numbers_of s))
+    record_check tokens floor before s ≡ must (leb (before + count_of s) 8192) (Err TotalCount) (numbers_from (token_of s) 0 (numbers_of s))
 unfolding record_check
 record_laid tokens floor before s a b c d e f =
     rw (
@@ -56,57 +55,53 @@ pub after_size : (file : List ℕ) → 12 ≤ length file → length file ≤ 32
 unfolding check_of
 after_size file h l = rw (le-leb 12 (length file) h, le-leb (length file) 32796 l)
 
-module _ (s : List ℕ) (i : ℕ) where
-  -- a slice's part from i to its end
-  pub take_rest : take (length s - i) (drop i s) ≡ drop i s
-  take_rest = take_all (length s - i) (drop i s) (simp length-drop (omega arith))
+-- a byte that stands for no kind is refused with 4
+unknown_byte : {why : Refusal} (b : ℕ) → Err why ≡ pipe_of b → why ≡ Pipes
+unknown_byte b h = by_test (eqb b 83)
+    (λ e. let k = rw e at h in cc)
+    (λ e. by_test (eqb b 80) (λ f. let k = rw (e, f) at h in cc) (λ f. let k = rw (e, f) at h in cc))
 
+module _ (s : List ℕ) (i : ℕ) where
   -- the pipe byte at i, and those after it
-  kinds_turn : i < length s → kinds_check (drop i s) ≡ must (is_known (pipe_of (get_or s i 0))) (Failed Pipes) (kinds_check (drop (i + 1) s))
+  kinds_turn : i < length s → kinds_check (drop i s) ≡ must (is_known (pipe_of (get_or s i 0))) (Err Pipes) (kinds_check (drop (i + 1) s))
   unfolding kinds_check
   kinds_turn h = rw (add-one, drop-cons s i 0)
 
-  pub kinds_known : (k : PipeKind) → i < length s → pipe_of (get_or s i 0) ≡ Known k → kinds_check (drop i s) ≡ kinds_check (drop (i + 1) s)
-  kinds_known k h e = rw (kinds_turn h, e)
+  pub kinds_known : {kind : PipeKind} → i < length s → Ok kind ≡ pipe_of (get_or s i 0) → kinds_check (drop i s) ≡ kinds_check (drop (i + 1) s)
+  kinds_known h e = rw (kinds_turn h, ← e)
 
-  pub kinds_unknown : i < length s → pipe_of (get_or s i 0) ≡ Unknown → kinds_check (drop i s) ≡ Failed Pipes
-  kinds_unknown h e = rw (kinds_turn h, e)
+  pub kinds_unknown : {why : Refusal} → i < length s → Err why ≡ pipe_of (get_or s i 0) → kinds_check (drop i s) ≡ Err why
+  kinds_unknown {why} h e = rw (kinds_turn h, ← e, ← unknown_byte (get_or s i 0) e)
 
-  pub kinds_end : length s ≤ i → kinds_check (drop i s) ≡ Passed
+  pub kinds_end : length s ≤ i → kinds_check (drop i s) ≡ passed
   unfolding kinds_check
   kinds_end h = rw (drop_of_length-le s h)
 
-  module _ (token floor : ℕ) where
-    -- the number at i, and those after it
-    pub numbers_turn : i + 1 < length s → numbers_from token floor (fields (drop i s))
-        ≡ must (leb floor (field_at s i)) (Failed RecordLayout)
-        (must (not (eqb (field_at s i) token)) (Failed ListsItself)
-        (numbers_from token (field_at s i + 1) (fields (drop (i + 2) s))))
-    unfolding numbers_from
-    numbers_turn h = rw (fields_turn s i h, add-one (field_at s i))
+-- the numbers of a record from i on
+module _ (ns : List ℕ) (i token floor : ℕ) where
+  pub numbers_turn : i < length ns → numbers_from token floor (drop i ns)
+      ≡ must (leb floor (get_or ns i 0)) (Err RecordLayout)
+      (must (not (eqb (get_or ns i 0) token)) (Err ListsItself)
+      (numbers_from token (get_or ns i 0 + 1) (drop (i + 1) ns)))
+  unfolding numbers_from
+  numbers_turn h = rw (add-one i, drop-cons ns i 0, add-one (get_or ns i 0))
 
-    pub numbers_end : length s ≤ i + 1 → numbers_from token floor (fields (drop i s)) ≡ Passed
-    unfolding numbers_from
-    numbers_end h = rw (fields_end s i h)
+  pub numbers_end : length ns ≤ i → numbers_from token floor (drop i ns) ≡ passed
+  unfolding numbers_from
+  numbers_end h = rw (drop_of_length-le ns h)
 
-  module _ (tokens records found floor before : ℕ) where
-    -- the record at i, and those after it
-    pub records_turn : i < length s → found ≤ i →
-        records_from tokens records (suc (length s - found)) found floor before (drop i s)
-        ≡ both (record_check tokens floor before (drop i s))
-        (records_from tokens records (suc (length s - (found + 1))) (found + 1) (token_of (drop i s) + 1) (before + count_of (drop i s))
-        (drop (i + (4 + 2 * count_of (drop i s))) s))
-    records_turn h l =
-        let left : length s - found ≡ suc (length s - suc found) = omega arith in
-        rw (
-          records_step tokens records (length s - found) found floor before (drop i s) (simp length-drop (omega arith)),
-          left,
-          add-one found,
-          add-one (token_of (drop i s)),
-          drop-drop (4 + 2 * count_of (drop i s)) i s,
-        )
+-- the records that are left, of a part in which so many were found
+module _ (part s : List ℕ) (tokens records found floor before : ℕ) where
+  -- the first, and those after it
+  pub records_turn : 1 ≤ length s → length s + found ≤ length part →
+      records_from tokens records (suc (length part - found)) found floor before s
+      ≡ both (record_check tokens floor before s)
+      (records_from tokens records (suc (length part - (found + 1))) (found + 1) (token_of s + 1) (before + count_of s) (after_record s))
+  records_turn h l =
+      let left : length part - found ≡ suc (length part - suc found) = omega arith in
+      rw (records_step tokens records (length part - found) found floor before s (omega arith), left, add-one found, add-one (token_of s))
 
-    pub records_end : length s ≤ i →
-        records_from tokens records (suc (length s - found)) found floor before (drop i s) ≡ must (eqb found records) (Failed RecordLayout) Passed
-    unfolding records_from
-    records_end h = rw (drop_of_length-le s h)
+  pub records_end : length s ≡ 0 →
+      records_from tokens records (suc (length part - found)) found floor before s ≡ must (eqb found records) (Err RecordLayout) passed
+  unfolding records_from
+  records_end h = rw h

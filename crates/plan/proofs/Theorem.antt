@@ -1,4 +1,5 @@
 -- A plan is read exactly if the layout admits it, and each plan has one file.
+use Rattle.std.specs.Prelude.{Ok, Err}
 use mathlib.Core.Path.{◌≡◌, refl, sym, ap, subst, ◌∙◌}
 use mathlib.Core.Logic.{◌↔◌}
 use mathlib.Core.List.{List, [], ◌∷◌, ◌++◌, map}
@@ -6,6 +7,7 @@ use Prim.Native.Nat.{ℕ, zero, suc, ◌≤◌}
 use native.Mathlib.Omega.{arith}
 use lib.ListN.{length}
 use Rattle.fields.specs.Bytes.{Bytes}
+use Rattle.plan.specs.Checks.{Check, passed}
 use Rattle.plan.specs.Plan.{Plan, Record, Valid, ValidRecord, record_bytes, records_bytes, header_of, trailer_fields, encode}
 use Rattle.vocabulary.specs.PipeKinds.{byte_of}
 use Rattle.rules.specs.Lists.{Every}
@@ -13,17 +15,14 @@ use Rattle.plan.specs.Reading.{check_of, plan_of, Outcome, accepted, refused, ou
 use Rattle.vocabulary.specs.declared.pipe_kind.PipeKind.{PipeKind}
 use Rattle.vocabulary.specs.declared.pipe_kind.PipeKind.TheVariants.{Serial, Parallel}
 use Rattle.plan.specs.declared.trailer.Header.{Header}
-use Rattle.plan.specs.declared.Reading.TheVariants.{Accepted}
-use Rattle.plan.specs.declared.verdict.Check.{Check}
-use Rattle.plan.specs.declared.verdict.Check.TheVariants.{Passed, Failed}
 use Rattle.fields.proofs.Fields.{field_bytes_bytes}
 use Rattle.plan.proofs.Sound.{encode_is, valid_is}
 use Rattle.plan.proofs.Complete.{check_is, plan_is, trailer_fits}
 
 -- what an accepting outcome tells
-accepts : (c : Check) (q p : Plan) → outcome c q ≡ accepted p → (c ≡ Passed) × (q ≡ p)
-accepts Passed q p e = (refl, cc)
-accepts (Failed r) q p e = let z : ◌≡◌ {A = ℕ} 0 1 = cc in absurd (omega arith)
+accepts : (c : Check) (q p : Plan) → outcome c q ≡ accepted p → (c ≡ passed) × (q ≡ p)
+accepts (Ok ok) q p e = (refl, cc)
+accepts (Err r) q p e = let z : ◌≡◌ {A = ℕ} 0 1 = cc in absurd (omega arith)
 
 -- bytes are read as a plan exactly if they are the file of that plan, and it is valid
 pub read_exactly : (file : List ℕ) → Bytes file → (p : Plan) → (read_of file ≡ accepted p) ↔ (Valid p × (file ≡ encode p))
@@ -40,10 +39,10 @@ read_exactly file bs p = (only_if, λ (v, e). if_valid v e)
 
 -- so the code returns a header exactly if the file is that of a valid plan with this header
 pub accepted_exactly : (file : List ℕ) → Bytes file → (h : Header) →
-    (reading_of (read_of file) ≡ Accepted h) ↔ ((p : Plan) × Valid p × (file ≡ encode p) × (header_of p ≡ h))
-accepted_exactly file bs h = (λ e. only_if (read_of file) refl e, λ (p, v, e, same). rw ((read_exactly file bs p).1 (v, e)) (ap Accepted same))
+    (reading_of (read_of file) ≡ Ok h) ↔ ((p : Plan) × Valid p × (file ≡ encode p) × (header_of p ≡ h))
+accepted_exactly file bs h = (λ e. only_if (read_of file) refl e, λ (p, v, e, same). rw ((read_exactly file bs p).1 (v, e)) (ap Ok same))
   where
-    only_if : (o : Outcome) → read_of file ≡ o → reading_of o ≡ Accepted h → (p : Plan) × Valid p × (file ≡ encode p) × (header_of p ≡ h)
+    only_if : (o : Outcome) → read_of file ≡ o → reading_of o ≡ Ok h → (p : Plan) × Valid p × (file ≡ encode p) × (header_of p ≡ h)
     only_if (accepted p) e same = let (v, f) = (read_exactly file bs p).0 e in (p, v, f, cc)
     only_if (refused r) e same = let z : ◌≡◌ {A = ℕ} 0 1 = cc in absurd (omega arith)
 

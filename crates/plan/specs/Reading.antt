@@ -1,7 +1,7 @@
 -- What reading a file must answer, for any list of bytes: the checks in their order, and the plan that the bytes spell.
-use Rattle.std.specs.Prelude.{List, map, ℕ, leb, length, take, drop}
+use Rattle.std.specs.Prelude.{List, map, ℕ, leb, length, take, drop, Result, Ok, Err}
 use Rattle.rules.specs.Lists.{must}
-use Rattle.plan.specs.Checks.{both}
+use Rattle.plan.specs.Checks.{Check, both}
 use Rattle.plan.specs.Plan.{Plan, header_of}
 use Rattle.plan.specs.Trailer.{trailer_of, header_check}
 use Rattle.plan.specs.Pipes.{pipes_check}
@@ -9,11 +9,7 @@ use Rattle.vocabulary.specs.PipeKinds.{kind_of}
 use Rattle.plan.specs.Records.{records_check, records_in}
 use Rattle.vocabulary.specs.declared.refusal.Refusal.{Refusal}
 use Rattle.vocabulary.specs.declared.refusal.Refusal.TheVariants.{FileSize}
-use Rattle.plan.specs.declared.verdict.Check.{Check}
-use Rattle.plan.specs.declared.verdict.Check.TheVariants.{Passed, Failed}
 use Rattle.plan.specs.declared.trailer.Header.{Header}
-use Rattle.plan.specs.declared.Reading.{Reading}
-use Rattle.plan.specs.declared.Reading.TheVariants.{Accepted, Refused}
 
 -- the records' bytes in a file with such a trailer
 abbrev pub record_part : Header → List ℕ → List ℕ
@@ -30,8 +26,8 @@ parts_check h file = both (pipes_check (pipe_part h file)) (records_check h.toke
 -- all checks of a file, in their order: 1, 2, 3, 4, then 5 to 7
 unfoldable pub check_of : List ℕ → Check
 check_of file =
-    must (leb 12 (length file)) (Failed FileSize)
-    (must (leb (length file) 32796) (Failed FileSize)
+    must (leb 12 (length file)) (Err FileSize)
+    (must (leb (length file) 32796) (Err FileSize)
     (both (header_check (trailer_of file) (length file))
     (parts_check (trailer_of file) file)))
 
@@ -55,13 +51,13 @@ pub data Outcome : Type 0 where
 
 -- the plan where the checks are passed
 abbrev pub outcome : Check → Plan → Outcome
-outcome Passed p = accepted p
-outcome (Failed r) p = refused r
+outcome (Ok ok) p = accepted p
+outcome (Err r) p = refused r
 
 unfoldable pub read_of : List ℕ → Outcome
 read_of file = outcome (check_of file) (plan_of file)
 
 -- what the code returns for it: of a plan the header
-abbrev pub reading_of : Outcome → Reading
-reading_of (accepted p) = Accepted (header_of p)
-reading_of (refused r) = Refused r
+abbrev pub reading_of : Outcome → Result Header Refusal
+reading_of (accepted p) = Ok (header_of p)
+reading_of (refused r) = Err r

@@ -1,19 +1,17 @@
 -- The deferral records, and the checks 5 to 7.
-use Rattle.std.specs.Prelude.{not, List, [], ◌∷◌, ℕ, zero, suc, ◌+◌, ◌*◌, leb, ltb, eqb, length, take, drop}
+use Rattle.std.specs.Prelude.{not, List, [], ◌∷◌, ℕ, zero, suc, ◌+◌, ◌*◌, leb, ltb, eqb, length, take, drop, Err}
 use Rattle.rules.specs.Lists.{if}
 use Rattle.fields.specs.Bytes.{field_at, fields}
 use Rattle.rules.specs.Lists.{must}
-use Rattle.plan.specs.Checks.{both}
+use Rattle.plan.specs.Checks.{Check, passed, both}
 use Rattle.plan.specs.Plan.{Record}
 use Rattle.vocabulary.specs.declared.refusal.Refusal.TheVariants.{RecordLayout, ListsItself, TotalCount}
-use Rattle.plan.specs.declared.verdict.Check.{Check}
-use Rattle.plan.specs.declared.verdict.Check.TheVariants.{Passed, Failed}
 
 -- the numbers of a token's record, from a floor on: each number's ascent (5), then self (6)
 unfoldable pub numbers_from : (token floor : ℕ) → List ℕ → Check
-numbers_from token floor [] = Passed
+numbers_from token floor [] = passed
 numbers_from token floor (n ∷ ns) =
-    must (leb floor n) (Failed RecordLayout) (must (not (eqb n token)) (Failed ListsItself) (numbers_from token (suc n) ns))
+    must (leb floor n) (Err RecordLayout) (must (not (eqb n token)) (Err ListsItself) (numbers_from token (suc n) ns))
 
 -- the token of the record that a list of bytes begins with
 abbrev pub token_of : List ℕ → ℕ
@@ -39,21 +37,21 @@ after_record s = drop (4 + 2 * count_of s) s
 -- token, count, cut short (5), running total (7), its numbers
 unfoldable pub record_check : (tokens floor before : ℕ) → List ℕ → Check
 record_check tokens floor before s =
-    must (leb 4 (length s)) (Failed RecordLayout)
-    (must (leb floor (token_of s)) (Failed RecordLayout)
-    (must (ltb (token_of s) tokens) (Failed RecordLayout)
-    (must (leb 1 (count_of s)) (Failed RecordLayout)
-    (must (leb (count_of s) 16) (Failed RecordLayout)
-    (must (leb (4 + 2 * count_of s) (length s)) (Failed RecordLayout)
-    (must (leb (before + count_of s) 8192) (Failed TotalCount)
+    must (leb 4 (length s)) (Err RecordLayout)
+    (must (leb floor (token_of s)) (Err RecordLayout)
+    (must (ltb (token_of s) tokens) (Err RecordLayout)
+    (must (leb 1 (count_of s)) (Err RecordLayout)
+    (must (leb (count_of s) 16) (Err RecordLayout)
+    (must (leb (4 + 2 * count_of s) (length s)) (Err RecordLayout)
+    (must (leb (before + count_of s) 8192) (Err TotalCount)
     (numbers_from (token_of s) 0 (numbers_of s))))))))
 
 -- the records that a list of bytes is, in file order, where so many were found before; last that there are R in all
 -- (`most` is there for the recursion: one more than the records that are looked at)
 unfoldable pub records_from : (tokens records most found floor before : ℕ) → List ℕ → Check
-records_from tokens records zero found floor before s = Failed RecordLayout
+records_from tokens records zero found floor before s = Err RecordLayout
 records_from tokens records (suc most) found floor before s =
-    if (eqb (length s) 0) (must (eqb found records) (Failed RecordLayout) Passed)
+    if (eqb (length s) 0) (must (eqb found records) (Err RecordLayout) passed)
     (both (record_check tokens floor before s)
     (records_from tokens records most (suc found) (suc (token_of s)) (before + count_of s) (after_record s)))
 

@@ -1,10 +1,9 @@
 -- The trailer: the last 12 bytes, and the checks 2 and 3.
-use Rattle.std.specs.Prelude.{List, ℕ, ◌+◌, ◌-◌, leb, eqb, length, drop}
+use Rattle.std.specs.Prelude.{List, ℕ, ◌+◌, ◌-◌, leb, eqb, length, drop, Err}
 use Rattle.fields.specs.Bytes.{field_at}
 use Rattle.rules.specs.Lists.{must}
 use Rattle.vocabulary.specs.declared.refusal.Refusal.TheVariants.{PartSizes, Limits}
-use Rattle.plan.specs.declared.verdict.Check.{Check}
-use Rattle.plan.specs.declared.verdict.Check.TheVariants.{Passed, Failed}
+use Rattle.plan.specs.Checks.{Check, passed}
 use Rattle.plan.specs.declared.trailer.Header.{Header}
 
 -- the six fields of 12 bytes
@@ -25,11 +24,11 @@ trailer_of file = header_at (drop (length file - 12) file)
 -- a trailer in a file of so many bytes: 2, then 3
 unfoldable pub header_check : Header → ℕ → Check
 header_check h size =
-    must (eqb (h.start + h.pipes + 12) size) (Failed PartSizes)
-    (must (eqb h.edition 1) (Failed Limits)
-    (must (leb 1 h.pipes) (Failed Limits)
-    (must (leb h.pipes 16) (Failed Limits)
-    (must (leb 1 h.lines) (Failed Limits)
-    (must (leb h.lines 32) (Failed Limits)
-    (must (leb h.tokens 4096) (Failed Limits)
-    Passed))))))
+    must (eqb (h.start + h.pipes + 12) size) (Err PartSizes)
+    (must (eqb h.edition 1) (Err Limits)
+    (must (leb 1 h.pipes) (Err Limits)
+    (must (leb h.pipes 16) (Err Limits)
+    (must (leb 1 h.lines) (Err Limits)
+    (must (leb h.lines 32) (Err Limits)
+    (must (leb h.tokens 4096) (Err Limits)
+    passed))))))

@@ -1,12 +1,9 @@
--- The check of all numbers is that of those from `at` on, at the present floor.
-use Rattle.std.proofs.Common.{length, ◌-◌, ◌≡◌, ◌≤◌, drop}
+-- The check of all numbers is that of those that are left, at the present floor.
+use Rattle.std.proofs.Common.{◌≡◌, ◌≤◌, drop}
 use Rattle.fields.specs.Bytes.{fields}
 use Rattle.plan.specs.Records.{numbers_from}
 use Rattle.plan.proofs.records.check_numbers.Given as goal
 
-abbrev pub invariant-loop-at : goal.invariant-loop-at
-invariant-loop-at l =
-    (l.at ≤ length l.numbers) × (numbers_from l.token 0 (fields l.numbers) ≡ numbers_from l.token l.floor (fields (drop l.at l.numbers)))
-
-abbrev pub decreases-loop-at : goal.decreases-loop-at
-decreases-loop-at l = length l.numbers - l.at
+abbrev pub invariant-loop-number : goal.invariant-loop-number
+invariant-loop-number l =
+    (l.floor ≤ 65536) × (numbers_from l.token 0 (fields l.fn.numbers) ≡ numbers_from l.token l.floor (drop l.number-index (fields l.fn.numbers)))

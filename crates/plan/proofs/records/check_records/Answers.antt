@@ -1,59 +1,65 @@
 -- `records::check_records` meets its contract.
-use Rattle.std.proofs.Common.{◌≡◌, sym, ◌∙◌, List, ℕ, suc, ◌+◌, ◌-◌, ◌*◌, ◌≤◌, ◌<◌, arith, eqb, length, drop, length-drop}
-use Rattle.fields.proofs.Fields.{field_inside}
-use Rattle.rules.specs.Lists.{must}
+use Rattle.std.proofs.Common.{◌≡◌, sym, ap, ◌∙◌, ◌+◌, ◌*◌, arith, length, drop, length-drop}
+use Rattle.std.proofs.lemmas.Result.{err_from_is_err_and}
+use borrow.Author.Tests.{eqb-true, eqb-false}
 use Rattle.rules.proofs.lists.Tests.{tests}
-use Rattle.vocabulary.specs.declared.refusal.Refusal.TheVariants.{RecordLayout}
-use Rattle.plan.specs.declared.verdict.Check.{Check}
-use Rattle.plan.specs.declared.verdict.Check.TheVariants.{Passed, Failed}
-use Rattle.plan.specs.Checks.{both}
-use Rattle.plan.specs.Records.{token_of, count_of, record_check, records_from}
-use Rattle.plan.proofs.Facts.{RecordFacts, record_passed}
-use Rattle.plan.proofs.Steps.{take_rest, records_turn, records_end}
+use Rattle.plan.specs.Records.{count_of, after_record}
+use Rattle.plan.proofs.Facts.{record_read}
+use Rattle.plan.proofs.Steps.{records_turn, records_end}
 use Rattle.plan.proofs.records.check_records.Goals as goal
 
-module _ (part : List ℕ) (at tokens records found floor before : ℕ) where
-  -- in a turn: the check of all records is that of this one, and then of those after it
-  turn_is : {p r : Check} → at < length part → found ≤ at →
-      p ≡ records_from tokens records (suc (length part - found)) found floor before (drop at part) →
-      r ≡ record_check tokens floor before (drop at part) →
-      p ≡ both r
-      (records_from tokens records (suc (length part - (found + 1))) (found + 1) (token_of (drop at part) + 1)
-      (before + count_of (drop at part)) (drop (at + (4 + 2 * count_of (drop at part))) part))
-  turn_is h l e f = rw (e, records_turn part at tokens records found floor before h l, f)
+pub returns-in_err-check_record : goal.returns-in_err-check_record
+returns-in_err-check_record c =
+    let l = c.loop-rest in
+    let (why, is, same) = err_from_is_err_and c.from_residual.result c.from_residual.ensures.1 in
+    let more : length l.rest.now ≡ 0 → ⊥ = eqb-false _ _ (sym c.loop-rest-test.ensures) in
+    rw (is, same, l.invariant.3, records_turn c.args.part.now l.rest.now c.args.tokens c.args.records l.found l.floor l.total (omega arith) (omega arith), ← c.in_err-check_record.ensures)
 
-  -- after the last record
-  end_is : {p : Check} → length part ≤ at →
-      p ≡ records_from tokens records (suc (length part - found)) found floor before (drop at part) →
-      p ≡ must (eqb found records) (Failed RecordLayout) Passed
-  end_is h e = rw (e, records_end part at tokens records found floor before h)
+pub overflow_add-floor : goal.overflow_add-floor
+overflow_add-floor c =
+    let read = record_read c.in_ok-check_record.ensures c.field_or_zero-floor.ensures c.field_or_zero-count.ensures in
+    omega (arith, read, read.facts)
 
-pub returns-in-Failed : goal.returns-in-Failed
-returns-in-Failed c =
-    let l = c.loop-at in
-    let checked = rw take_rest at c.check_record.ensures in
-    rw (turn_is c.args.part.now l.at c.args.tokens c.args.records l.found l.floor l.total (omega arith) (omega arith) l.invariant.3 checked, c.in-Failed.is)
+pub overflow_add-total : goal.overflow_add-total
+overflow_add-total c =
+    let read = record_read c.in_ok-check_record.ensures c.field_or_zero-floor.ensures c.field_or_zero-count.ensures in
+    omega (arith, read, read.facts)
 
-pub loop-at-preserved : goal.loop-at-preserved
-loop-at-preserved c =
-    let l = c.loop-at in
-    let part = c.args.part.now in
-    let checked = rw take_rest at c.check_record.ensures in
-    let facts : RecordFacts c.args.tokens l.floor l.total (drop l.at part) = record_passed _ _ _ _ (sym checked ∙ c.in_default.is) in
-    let token : c.field_or_zero.result ≡ token_of (drop l.at part) = field_inside _ _ (omega arith) (rw take_rest at c.field_or_zero.ensures) in
-    let count : c.field_or_zero-count.result ≡ count_of (drop l.at part) = field_inside _ _ (omega arith) (rw take_rest at c.field_or_zero-count.ensures) in (
-      omega (arith, length-drop l.at part),
-      omega arith,
-      omega arith,
-      rw (turn_is part l.at c.args.tokens c.args.records l.found l.floor l.total (omega arith) (omega arith) l.invariant.3 checked, c.in_default.is, token, count),
+pub split_at-requires : goal.split_at-requires
+split_at-requires c =
+    let read = record_read c.in_ok-check_record.ensures c.field_or_zero-floor.ensures c.field_or_zero-count.ensures in
+    omega (arith, read, read.facts)
+
+pub loop-rest-preserved : goal.loop-rest-preserved
+loop-rest-preserved c =
+    let l = c.loop-rest in
+    let s = l.rest.now in
+    let more : length s ≡ 0 → ⊥ = eqb-false _ _ (sym c.loop-rest-test.ensures) in
+    let read = record_read c.in_ok-check_record.ensures c.field_or_zero-floor.ensures c.field_or_zero-count.ensures in
+    let f = read.facts in
+    let stride : 4 + 2 * c.from.result ≡ 4 + 2 * count_of s = omega (arith, read) in
+    let later : c.split_at.result.1.now ≡ after_record s = c.split_at.ensures.back ∙ ap (λ n. drop n s) stride in (
+      omega (arith, read, f, ap length later, length-drop (4 + 2 * count_of s) s),
+      omega (arith, read, f),
+      omega (arith, read, f),
+      rw (
+        l.invariant.3,
+        records_turn c.args.part.now s c.args.tokens c.args.records l.found l.floor l.total (omega arith) (omega arith),
+        ← c.in_ok-check_record.ensures,
+        later,
+        read.token_is,
+        read.count_is,
+      ),
     )
 
 pub returns-then-found-records : goal.returns-then-found-records
 returns-then-found-records c =
-    let l = c.loop-at in
-    rw (end_is c.args.part.now l.at c.args.tokens c.args.records l.found l.floor l.total (omega arith) l.invariant.3) (search tests)
+    let l = c.loop-rest in
+    let none : length l.rest.now ≡ 0 = eqb-true _ _ (sym c.loop-rest-test.ensures) in
+    rw (l.invariant.3, records_end c.args.part.now l.rest.now c.args.tokens c.args.records l.found l.floor l.total none) (search tests)
 
-pub returns : goal.returns
-returns c =
-    let l = c.loop-at in
-    rw (end_is c.args.part.now l.at c.args.tokens c.args.records l.found l.floor l.total (omega arith) l.invariant.3) (search tests)
+pub returns-else-found-records : goal.returns-else-found-records
+returns-else-found-records c =
+    let l = c.loop-rest in
+    let none : length l.rest.now ≡ 0 = eqb-true _ _ (sym c.loop-rest-test.ensures) in
+    rw (l.invariant.3, records_end c.args.part.now l.rest.now c.args.tokens c.args.records l.found l.floor l.total none) (search tests)

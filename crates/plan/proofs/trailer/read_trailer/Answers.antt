@@ -2,7 +2,7 @@
 use Rattle.std.proofs.Common.{◌≡◌, List, ℕ, ◌-◌, ◌≤◌, arith, length, take, drop, length-drop}
 use Rattle.fields.specs.Bytes.{field_at, field_in}
 use Rattle.fields.proofs.Fields.{field_inside}
-use Rattle.plan.proofs.Steps.{take_rest}
+use Rattle.std.proofs.lemmas.List.{take_rest}
 use Rattle.plan.proofs.trailer.read_trailer.Goals as goal
 
 -- a field that was read from the part is the trailer's
