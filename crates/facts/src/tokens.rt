@@ -4,9 +4,10 @@ ghost use Rattle.tables.specs.Layout.{most_tokens};
 ghost use Rattle.tables.specs.Facts.{standing_of, numbers_at, numbers_of, due_of, left_of, last_of, hold_of};
 ghost use Rattle.facts.specs.{Answers};
 
+use std::ops::Range;
 use tables::{
-    DEFERRED, DEFERRED_MARK, FINISHED_MARK, NO_MARK, POSITIONS, Part, RECORD_NUMBERS, STANDINGS,
-    Spoiled, TOKENS,
+    DEFERRED, DEFERRED_MARK, FINISHED_MARK, NO_MARK, POSITIONS, RECORD_NUMBERS, STANDINGS, Spoiled,
+    TOKENS,
 };
 
 // The facts of the tokens: the records, the positions and the standings.
@@ -26,11 +27,11 @@ fn standing(facts: &Facts, token: u16) -> u16
 
 // Where the numbers of the record at a place stand: the place is 1 + the record's position, or 0 for no record.
 #[tactic(auto, unfolding(tables::specs::Facts::numbers_at))]
-fn numbers_at(facts: &Facts, place: usize) -> Result<Part, Spoiled>
+fn numbers_at(facts: &Facts, place: usize) -> Result<Range<usize>, Spoiled>
     ensures { result ≡ numbers_at facts.now place }
 {
     if place == 0 {
-        return Ok(Part { start: 0, end: 0 });
+        return Ok(0..0);
     }
     if POSITIONS < place {
         return Err(Spoiled);
@@ -40,12 +41,12 @@ fn numbers_at(facts: &Facts, place: usize) -> Result<Part, Spoiled>
     if POSITIONS < end || !(1..=RECORD_NUMBERS).contains(&count) {
         return Err(Spoiled);
     }
-    Ok(Part { start: place, end })
+    Ok(place..end)
 }
 
 // Where a token's numbers stand.
 #[tactic(auto, unfolding(tables::specs::Facts::numbers_of))]
-fn numbers(facts: &Facts, token: u16) -> Result<Part, Spoiled>
+fn numbers(facts: &Facts, token: u16) -> Result<Range<usize>, Spoiled>
     requires { token < most_tokens }
     ensures { result ≡ numbers_of facts.now token }
 {
@@ -89,5 +90,5 @@ pub(crate) fn held_by<F: Fn(u16) -> bool>(
     ensures { (test : ℕ → Bool) → Answers (F.post passes) test → result ≡ hold_of facts.now test token }
 {
     let part = numbers(facts, token)?;
-    Ok(last(&facts[part.start..part.end], passes))
+    Ok(last(&facts[part], passes))
 }

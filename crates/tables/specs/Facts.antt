@@ -2,7 +2,7 @@
 use Rattle.std.specs.Prelude.{Bool, true, false, not, List, [], ◌∷◌, ℕ, ◌+◌, ◌-◌, leb, ltb, eqb, get_or, take, drop, Option, Some, None, Result, Ok, Err}
 use Rattle.std.specs.Option.{option_or}
 use Rattle.rules.specs.Lists.{if, must, must_not}
-use Rattle.tables.specs.declared.Part.{Part}
+use Rattle.std.specs.declared.ops.Range.{Range}
 use Rattle.tables.specs.declared.Spoiled.{Spoiled}
 use Rattle.tables.specs.Layout.{positions_at, standing_at, most_numbers, deferred_mark, finished_mark}
 
@@ -10,7 +10,10 @@ use Rattle.tables.specs.Layout.{positions_at, standing_at, most_numbers, deferre
 abbrev pub spoiled : Spoiled
 spoiled = record {}
 
--- a part of the records
+-- a part of the records: it begins at one place, and ends before another
+abbrev pub Part : Type 0
+Part = Range ℕ
+
 abbrev pub part : ℕ → ℕ → Part
 part a b = record { start = a; end = b }
 

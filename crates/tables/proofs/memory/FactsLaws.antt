@@ -14,9 +14,8 @@ use Rattle.std.specs.List.{find}
 use Rattle.std.specs.Option.{option_or}
 use Rattle.std.proofs.lemmas.List.Folds.{find-append}
 use Rattle.std.proofs.lemmas.List.{reverse-append}
-use Rattle.tables.specs.declared.Part.{Part}
 use Rattle.tables.specs.declared.Spoiled.{Spoiled}
-use Rattle.tables.specs.Facts.{Hold, spoiled, part, standing_of, numbers_at, numbers_of, left_of, last_of, hold_as, hold_of, left_hold}
+use Rattle.tables.specs.Facts.{Hold, Part, spoiled, part, standing_of, numbers_at, numbers_of, left_of, last_of, hold_as, hold_of, left_hold}
 use Rattle.tables.specs.Releasing.{is_unsound}
 
 module _ (f : List ℕ) where
