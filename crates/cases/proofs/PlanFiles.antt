@@ -3,15 +3,16 @@ use mathlib.Core.Path.{◌≡◌, refl}
 use mathlib.Core.List.{List, [], ◌∷◌, ◌++◌, map}
 use Prim.Native.Nat.{ℕ, zero, suc, ◌*◌}
 use lib.ListN.{length, replicate}
+use Rattle.std.specs.Prelude.{Err}
 use Rattle.fields.specs.Bytes.{fields, field_bytes}
 use Rattle.vocabulary.specs.Refusals.{number_of}
+use Rattle.plan.specs.Checks.{passed}
 use Rattle.plan.specs.Plan.{Plan, encode, records_bytes}
 use Rattle.plan.specs.Trailer.{header_check}
 use Rattle.plan.specs.Pipes.{pipes_check, kinds_check}
 use Rattle.plan.specs.Records.{records_from, record_check, numbers_from, records_of}
 use Rattle.plan.specs.Reading.{Outcome, accepted, refused, read_of, check_of, parts_check, plan_with}
 use Rattle.vocabulary.specs.declared.refusal.Refusal.TheVariants.{ListsItself, RecordLayout, TotalCount}
-use Rattle.plan.specs.declared.verdict.Check.TheVariants.{Passed, Failed}
 use Rattle.vocabulary.specs.declared.pipe_kind.PipeKind.TheVariants.{Serial}
 
 -- what reading answers, as the paper numbers it; 0 for a plan
@@ -75,7 +76,7 @@ refusals = refl
 
 -- the running total comes after cut short and before the numbers: a record of token 3 where 8,191 and 8,192 numbers were listed
 totals : map (λ before. map (λ fs. record_check 9 0 before (field_bytes fs)) ((3 ∷ 1 ∷ 4 ∷ []) ∷ (3 ∷ 1 ∷ 3 ∷ []) ∷ (3 ∷ 1 ∷ []) ∷ [])) (8191 ∷ 8192 ∷ [])
-    ≡ (Passed ∷ Failed ListsItself ∷ Failed RecordLayout ∷ []) ∷ (Failed TotalCount ∷ Failed TotalCount ∷ Failed RecordLayout ∷ []) ∷ []
+    ≡ (passed ∷ Err ListsItself ∷ Err RecordLayout ∷ []) ∷ (Err TotalCount ∷ Err TotalCount ∷ Err RecordLayout ∷ []) ∷ []
 unfolding field_bytes record_check numbers_from fields
 totals = refl
 

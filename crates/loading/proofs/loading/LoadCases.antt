@@ -1,4 +1,5 @@
 -- Loading, case by case, as the code meets them.
+use Rattle.std.specs.Prelude.{Ok, Err}
 use mathlib.Core.Path.{◌≡◌, refl, sym, ap, ◌∙◌}
 use mathlib.Core.List.{List}
 use Prim.Native.Nat.{ℕ, ◌≤◌, ◌<◌}
@@ -14,7 +15,6 @@ use Rattle.plan.specs.Plan.{Plan, Record}
 use Rattle.plan.specs.Records.{records_in}
 use Rattle.plan.specs.Reading.{Outcome, accepted, refused, read_of, reading_of}
 use Rattle.plan.specs.declared.trailer.Header.{Header}
-use Rattle.plan.specs.declared.Reading.{Reading}
 use Rattle.loading.specs.Layout.{laid_out}
 use Rattle.loading.specs.Loading.{load_as, load_of}
 use Rattle.loading.proofs.loading.PlanRead.{PlanRead, accepted_read, refused_read}
@@ -26,33 +26,31 @@ as_read (refused why) workers m some most enough = refl
 as_read (accepted p) workers m some most enough = rw (le-leb 1 workers some, le-leb workers 32 most, le-leb 32768 (length m) enough)
 
 -- what is answered of a file that was read
-module _ (file : List ℕ) (workers : ℕ) (m : List ℕ) {r : Reading} (told : r ≡ reading_of (read_of file)) where
+module _ (file : List ℕ) (workers : ℕ) (m : List ℕ) where
   -- 1 to 7
-  pub plan_refused : (why : Refusal) → r ≡ Reading.Refused why → r ≡ reading_of (load_of file workers m).0
+  pub plan_refused : {why : Refusal} → Err why ≡ reading_of (read_of file) → Err why ≡ reading_of (load_of file workers m).0
   unfolding load_as
-  plan_refused why e = rw (refused_read (read_of file) why (sym told ∙ e)) e
+  plan_refused {why} e = rw (refused_read (read_of file) why (sym e))
 
-  module _ (h : Header) (e : r ≡ Reading.Accepted h) where
+  module _ {h : Header} (e : Ok h ≡ reading_of (read_of file)) where
     -- 8
-    pub no_worker : workers < 1 → Reading.Refused Refusal.Workers ≡ reading_of (load_of file workers m).0
+    pub workers_refused : (1 ≤ workers → workers ≤ 32 → ⊥) → Err Refusal.Workers ≡ reading_of (load_of file workers m).0
     unfolding load_as within
-    no_worker none = rw ((accepted_read (read_of file) h (sym told ∙ e)).1, lt-leb 1 workers none)
+    workers_refused beyond = rw (accepted_read (read_of file) h (sym e)).1
+        (by_test (leb 1 workers)
+        (λ some. by_test (leb workers 32) (λ most. absurd (beyond (leb-true 1 workers some) (leb-true workers 32 most))) (λ many. rw (some, many)))
+        (λ none. rw none))
 
-    module _ (some : 1 ≤ workers) where
-      pub many_workers : 32 < workers → Reading.Refused Refusal.Workers ≡ reading_of (load_of file workers m).0
+    module _ (some : 1 ≤ workers) (most : workers ≤ 32) where
+      -- 9
+      pub little_memory : length m < 32768 → Err Refusal.Memory ≡ reading_of (load_of file workers m).0
       unfolding load_as within
-      many_workers many = rw ((accepted_read (read_of file) h (sym told ∙ e)).1, le-leb 1 workers some, lt-leb workers 32 many)
+      little_memory little =
+          rw ((accepted_read (read_of file) h (sym e)).1, le-leb 1 workers some, le-leb workers 32 most, lt-leb 32768 (length m) little)
 
-      module _ (most : workers ≤ 32) where
-        -- 9
-        pub little_memory : length m < 32768 → Reading.Refused Refusal.Memory ≡ reading_of (load_of file workers m).0
-        unfolding load_as within
-        little_memory little =
-            rw ((accepted_read (read_of file) h (sym told ∙ e)).1, le-leb 1 workers some, le-leb workers 32 most, lt-leb 32768 (length m) little)
-
-        -- else the plan
-        pub accepts : 32768 ≤ length m → r ≡ reading_of (load_of file workers m).0
-        accepts enough = told ∙ ap reading_of (sym (as_read (read_of file) workers m some most enough))
+      -- else the plan
+      pub accepts : 32768 ≤ length m → Ok h ≡ reading_of (load_of file workers m).0
+      accepts enough = e ∙ ap reading_of (sym (as_read (read_of file) workers m some most enough))
 
 -- what loading gives: a refusal, with the memory as it was, or the plan laid out
 pub data Loading (o : Outcome) (workers : ℕ) (m : List ℕ) : Type 0 where
@@ -74,34 +72,34 @@ loading (accepted p) workers m =
     (λ none. turned_down Refusal.Workers (rw none))
 
 -- a plan that is loaded was read
-pub loaded_read : (o : Outcome) (workers : ℕ) (m : List ℕ) (h : Header) → reading_of (load_as o workers m).0 ≡ Reading.Accepted h → (load_as o workers m).0 ≡ o
+pub loaded_read : (o : Outcome) (workers : ℕ) (m : List ℕ) (h : Header) → reading_of (load_as o workers m).0 ≡ Ok h → (load_as o workers m).0 ≡ o
 loaded_read o workers m h e = elim (loading o workers m) [
   | turned_down why is ↦ let q = rw is at e in let z : ◌≡◌ {A = ℕ} 0 1 = cc in absurd (omega arith)
   | laid p o_is manned enough is ↦ ap (λ x. x.0) is ∙ sym o_is
 ]
 
 -- what is left in memory where this is answered
-module _ (file : List ℕ) (workers : ℕ) (m : List ℕ) {r : Reading} (told : r ≡ reading_of (load_of file workers m).0) where
-  pub keeps : (why : Refusal) → r ≡ Reading.Refused why → m ≡ (load_of file workers m).1
-  keeps why e = elim (loading (read_of file) workers m) [
+module _ (file : List ℕ) (workers : ℕ) (m : List ℕ) where
+  pub keeps : {why : Refusal} → Err why ≡ reading_of (load_of file workers m).0 → m ≡ (load_of file workers m).1
+  keeps told = elim (loading (read_of file) workers m) [
     | turned_down was is ↦ rw is
-    | laid p o_is manned enough is ↦ let q = rw is at (sym told ∙ e) in let z : ◌≡◌ {A = ℕ} 0 1 = cc in absurd (omega arith)
+    | laid p o_is manned enough is ↦ let q = rw is at told in let z : ◌≡◌ {A = ℕ} 0 1 = cc in absurd (omega arith)
   ]
 
-  module _ {h : Header} (e : r ≡ Reading.Accepted h) where
+  module _ {h : Header} (told : Ok h ≡ reading_of (load_of file workers m).0) where
     -- the plan was read, and there is memory for it
-    pub was_read : reading_of (read_of file) ≡ Reading.Accepted h
-    was_read = ap reading_of (sym (loaded_read (read_of file) workers m h (sym told ∙ e))) ∙ sym told ∙ e
+    pub was_read : reading_of (read_of file) ≡ Ok h
+    was_read = ap reading_of (sym (loaded_read (read_of file) workers m h (sym told))) ∙ sym told
 
     pub has_room : 32768 ≤ length m
     has_room = elim (loading (read_of file) workers m) [
-      | turned_down why is ↦ let q = rw is at (sym told ∙ e) in let z : ◌≡◌ {A = ℕ} 0 1 = cc in absurd (omega arith)
+      | turned_down why is ↦ let q = rw is at told in let z : ◌≡◌ {A = ℕ} 0 1 = cc in absurd (omega arith)
       | laid p o_is manned enough is ↦ enough
     ]
 
     pub loads : PlanRead file h → {m' : List ℕ} → m' ≡ laid_out (records_in (take h.start file)) m → m' ≡ (load_of file workers m).1
     loads read m-is = elim (loading (read_of file) workers m) [
-      | turned_down why is ↦ let q = rw is at (sym told ∙ e) in let z : ◌≡◌ {A = ℕ} 0 1 = cc in absurd (omega arith)
+      | turned_down why is ↦ let q = rw is at told in let z : ◌≡◌ {A = ℕ} 0 1 = cc in absurd (omega arith)
       | laid p o_is manned enough is ↦
           let same : accepted read.plan ≡ accepted p = sym read.reads ∙ o_is in
           let plan_is : read.plan ≡ p = cc in

@@ -1,4 +1,5 @@
 -- What is known of a file that was read: its parts are the bytes of a valid plan.
+use Rattle.std.specs.Prelude.{Ok, Err}
 use mathlib.Core.Path.{◌≡◌, refl, sym, ap, subst, ◌∙◌}
 use mathlib.Core.List.{List, [], ◌∷◌, ◌++◌, map}
 use Prim.Native.Nat.{ℕ, ◌+◌, ◌≤◌}
@@ -14,7 +15,6 @@ use Rattle.plan.specs.Records.{records_in}
 use Rattle.plan.specs.Reading.{Outcome, accepted, refused, read_of, reading_of}
 use Rattle.vocabulary.specs.declared.refusal.Refusal.{Refusal}
 use Rattle.plan.specs.declared.trailer.Header.{Header}
-use Rattle.plan.specs.declared.Reading.{Reading}
 use Rattle.plan.proofs.CompleteParts.{few_records, kinds_complete, records_complete, length_records}
 use Rattle.plan.proofs.Theorem.{read_exactly, accepted_exactly}
 use Rattle.loading.specs.Layout.{records_fields, Spells}
@@ -103,18 +103,18 @@ module _ (p : Plan) (v : Valid p) where
   }
 
 -- a file that was accepted with this header is that of a valid plan
-pub plan_read : (file : List ℕ) → Bytes file → (header : Header) → reading_of (read_of file) ≡ Reading.Accepted header → PlanRead file header
+pub plan_read : (file : List ℕ) → Bytes file → (header : Header) → reading_of (read_of file) ≡ Ok header → PlanRead file header
 plan_read file bs header e =
     let (p, v, file_is, header_is) = (accepted_exactly file bs header).0 e in
     let read : read_of (encode p) ≡ accepted p = ap read_of (sym file_is) ∙ (read_exactly file bs p).1 (v, file_is) in
     subst (λ f. PlanRead f header) (sym file_is) (subst (PlanRead (encode p)) header_is (plan_read_encoded p v read))
 
 -- a file that was accepted is that of a plan
-pub accepted_read : (o : Outcome) (h : Header) → reading_of o ≡ Reading.Accepted h → (p : Plan) × (o ≡ accepted p)
+pub accepted_read : (o : Outcome) (h : Header) → reading_of o ≡ Ok h → (p : Plan) × (o ≡ accepted p)
 accepted_read (accepted p) h e = (p, refl)
 accepted_read (refused r) h e = let z : ◌≡◌ {A = ℕ} 0 1 = cc in absurd (omega arith)
 
 -- a file that was refused
-pub refused_read : (o : Outcome) (why : Refusal) → reading_of o ≡ Reading.Refused why → o ≡ refused why
+pub refused_read : (o : Outcome) (why : Refusal) → reading_of o ≡ Err why → o ≡ refused why
 refused_read (accepted p) why e = let z : ◌≡◌ {A = ℕ} 0 1 = cc in absurd (omega arith)
 refused_read (refused r) why e = cc
