@@ -1,8 +1,7 @@
 -- What the engine's answers stand for.
-use Rattle.std.specs.Prelude.{List, ℕ}
+use Rattle.std.specs.Prelude.{List, ℕ, Err}
 use Rattle.rules.specs.Choices as rules
 use Rattle.vocabulary.specs.declared.refusal.Refusal.{Refusal}
-use Rattle.vocabulary.specs.declared.answer.Answer.TheVariants.{Refused}
 use Rattle.rules.specs.Answers.{answer_of}
 use Rattle.tables.specs.State as tables
 use Rattle.state.specs.declared.State.{State}
@@ -11,7 +10,7 @@ use Rattle.engine.specs.declared.Chosen.{Chosen}
 
 -- what a choice that is turned down returns
 abbrev pub refused_by : State → Refusal → Chosen
-refused_by s why = record { answer = Refused why; state = s }
+refused_by s why = record { answer = Err why; state = s }
 
 -- what a choice returns, with the memory that it leaves
 unfoldable pub chosen_of : Chosen → List ℕ → rules.Chosen tables.State

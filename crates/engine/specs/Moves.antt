@@ -1,11 +1,11 @@
 -- What the parts of a move answer, as the code has them.
-use Rattle.std.specs.Prelude.{◌≡◌, Bool, true, false, List, ℕ, ◌+◌, ◌-◌, eqb, ltb, get_or, set}
+use Rattle.std.specs.Prelude.{◌≡◌, Bool, true, false, List, ℕ, ◌+◌, ◌-◌, ◌<◌, eqb, ltb, get_or, set, Option, Some, None}
 use Rattle.rules.specs.Lists.{if, must_not}
 use Rattle.vocabulary.specs.declared.Line.{Line}
 use Rattle.vocabulary.specs.declared.Worker.{Worker}
 use Rattle.vocabulary.specs.declared.Slot.{Slot}
 use Rattle.vocabulary.specs.declared.Slots.{Slots}
-use Rattle.vocabulary.specs.declared.answer.Answer.{Answer}
+use Rattle.vocabulary.specs.declared.event.Event.{Event}
 use Rattle.vocabulary.specs.declared.event.Step.{Step}
 use Rattle.rules.specs.RunState.{Machine, waits, slot_at, put_slot, counter_at, slot_of, full}
 use Rattle.rules.specs.Choices.{Chosen, Finished, next, moved, with_place, start_first}
@@ -16,9 +16,9 @@ use Rattle.tables.specs.Calls.{memory_source, safe_take}
 use Rattle.state.specs.declared.Figures.{Figures}
 use Rattle.state.specs.Machines.{machine_of, whole}
 use Rattle.engine.specs.Machines.{chosen_of}
-use Rattle.engine.specs.Turns.{turned}
+use Rattle.engine.specs.Turns.{Turn, Answer, turned}
 use Rattle.engine.specs.declared.turn.Cell.{Cell}
-use Rattle.engine.specs.declared.turn.Turn.{Turn}
+use Rattle.engine.specs.declared.turn.Change.{Change}
 use Rattle.engine.specs.declared.finishing.Falls.{Falls}
 
 -- whether a token was taken
@@ -31,26 +31,41 @@ is_took (Took t x) = true
 unfoldable pub overfull_of : Figures → List ℕ → Bool
 overfull_of f m = must_not (ltb f.placed f.tables.tokens) false (is_took (safe_take (f.tables, m)))
 
+-- a counter that falls by one: none does that is 0
+unfoldable pub lowered_of : Cell → Option Cell
+lowered_of c = must_not (eqb c.value 0) None (Some (record { at = c.at; value = c.value - 1 }))
+
+-- the counter ahead once another has fallen: both may be one counter
+unfoldable pub left_of : Cell → Cell → Cell
+left_of c ahead = record { at = ahead.at; value = if (eqb c.at ahead.at) c.value ahead.value }
+
+-- a fall after another
+abbrev pub with_second : Cell → Option Cell → Option Falls
+with_second first None = None
+with_second first (Some second) = Some (record { first = first; second = second })
+
+abbrev pub then_ahead : Option Cell → Cell → Option Falls
+then_ahead None ahead = None
+then_ahead (Some first) ahead = with_second first (lowered_of (left_of first ahead))
+
 -- "If the pipe is serial, the counter of line (l+1) mod L at the same pipe falls by one. Then that of this line at pipe
--- (p+1) mod P falls by one", "14 if the step would take a counter below 0": by the places and values of the two counters
-unfoldable pub falls_of : Bool → ℕ → ℕ → ℕ → ℕ → Falls
-falls_of serial beside near ahead far =
-    let kept : Cell = record { at = ahead; value = far } in
-    let low : Falls = record { ok = false; first = kept; second = kept } in
-    let left : ℕ = if (eqb beside ahead) (near - 1) far in
-    if serial
-    (must_not (eqb near 0) low
-    (must_not (eqb left 0) low
-    (record { ok = true; first = record { at = beside; value = near - 1 }; second = record { at = ahead; value = left - 1 } })))
-    (must_not (eqb far 0) low
-    (record { ok = true; first = kept; second = record { at = ahead; value = far - 1 } }))
+-- (p+1) mod P falls by one", "14 if the step would take a counter below 0": by the two counters
+unfoldable pub falls_of : Bool → Cell → Cell → Option Falls
+falls_of serial beside ahead = if serial (then_ahead (lowered_of beside) ahead) (with_second ahead (lowered_of ahead))
+
+-- a counter, with its place among all
+abbrev pub cell_of : List ℕ → ℕ → ℕ → Cell
+cell_of counters l p = record { at = counter_at l p; value = get_or counters (counter_at l p) 0 }
+
+-- both are among the counters
+abbrev pub FitFalls : Option Falls → Type 0
+FitFalls None = Unit {0}
+FitFalls (Some x) = (x.first.at < 512) × (x.second.at < 512)
 
 -- the falls of a line's finish
-unfoldable pub both_of : Figures → List ℕ → ℕ → Slot → Falls
+unfoldable pub both_of : Figures → List ℕ → ℕ → Slot → Option Falls
 both_of f counters l slot =
-    let beside : ℕ = counter_at (next f.lines l) slot.pipe.0 in
-    let ahead : ℕ = counter_at l (next f.pipes slot.pipe.0) in
-    falls_of (get_or f.serial slot.pipe.0 false) beside (get_or counters beside 0) ahead (get_or counters ahead 0)
+    falls_of (get_or f.serial slot.pipe.0 false) (cell_of counters (next f.lines l) slot.pipe.0) (cell_of counters l (next f.pipes slot.pipe.0))
 
 -- the counters after them
 abbrev pub fallen : List ℕ → Falls → List ℕ
@@ -65,44 +80,45 @@ finished_of m l c x =
       machine = with_place m c (put_slot m.slots l (moved m.pipes s)) m.placed m.stopped x;
     }
 
--- a finish by its slot, as a step, and its answer
-abbrev pub finished_step : Line → Slot → Step
-finished_step line slot = record { line = line; pipe = slot.pipe; token = slot.token; place = slot.place; worker = slot.worker }
+-- a step by the slot of its line
+abbrev pub step_of : Line → Slot → Worker → Step
+step_of line slot worker = record { line = line; pipe = slot.pipe; token = slot.token; place = slot.place; worker = worker }
 
-abbrev pub finished_answer : Line → Slot → Answer
-finished_answer line slot = Answer.Finished (finished_step line slot)
+-- the event of a finish
+abbrev pub finished_event : Line → Slot → Event
+finished_event line slot = Event.Finished (step_of line slot slot.worker)
 
 -- a finish, worked out
-abbrev pub settled_turn : Figures → Line → Slot → Falls → Tables → Turn
-settled_turn f line slot x t = Turn.Made (record {
-  answer = finished_answer line slot;
+abbrev pub settled_change : Figures → Line → Slot → Falls → Tables → Change
+settled_change f line slot x t = record {
+  event = finished_event line slot;
   first = x.first;
   second = x.second;
   slot = moved f.pipes slot;
   placed = f.placed;
   stopped = f.stopped;
   tables = t;
-})
+}
 
 -- "The counter becomes full."
 abbrev pub refilled : Figures → ℕ → ℕ → Cell
 refilled f l p = record { at = counter_at l p; value = full (get_or f.serial p false) }
 
 -- a start with a token that the line holds, one with a token that was taken, and a stop, worked out
-abbrev pub started_turn : Figures → Worker → Line → Slot → Turn
-started_turn f worker line slot = Turn.Made (record {
-  answer = Answer.Started (record { line = line; pipe = slot.pipe; token = slot.token; place = slot.place; worker = worker });
+abbrev pub started_change : Figures → Worker → Line → Slot → Change
+started_change f worker line slot = record {
+  event = Event.Started (step_of line slot worker);
   first = refilled f line.0 slot.pipe.0;
   second = refilled f line.0 slot.pipe.0;
   slot = record { pipe = slot.pipe; running = true; token = slot.token; place = slot.place; worker = worker };
   placed = f.placed;
   stopped = f.stopped;
   tables = f.tables;
-})
+}
 
-abbrev pub taken_turn : Figures → Worker → Line → ℕ → Tables → Turn
-taken_turn f worker line token t =
-    started_turn (record {
+abbrev pub taken_change : Figures → Worker → Line → ℕ → Tables → Change
+taken_change f worker line token t =
+    started_change (record {
       pipes = f.pipes;
       lines = f.lines;
       workers = f.workers;
@@ -112,16 +128,16 @@ taken_turn f worker line token t =
       tables = t;
     }) worker line (waits 0 token f.placed)
 
-abbrev pub stopped_turn : Figures → Worker → Line → Slot → Tables → Turn
-stopped_turn f worker line slot t = Turn.Made (record {
-  answer = Answer.Stopped (record { line = line; worker = worker });
+abbrev pub stopped_change : Figures → Worker → Line → Slot → Tables → Change
+stopped_change f worker line slot t = record {
+  event = Event.Stopped (record { line = line; worker = worker });
   first = refilled f line.0 0;
   second = refilled f line.0 0;
   slot = slot;
   placed = f.placed;
   stopped = true;
   tables = t;
-})
+}
 
 -- a turn is the start at pipe 0 with what the tables give, in every state with these figures where the line has this slot
 abbrev pub StartsFirst : Figures → List ℕ → ℕ → ℕ → Slot → Turn → List ℕ → List ℕ → Type 0

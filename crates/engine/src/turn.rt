@@ -1,8 +1,11 @@
 // A choice is worked out on the parts of a state and made then, so that a state is copied as seldom as can be.
-use tables::Tables;
-use vocabulary::{Answer, Refusal, Slot};
+ghost use Rattle.std.specs.Prelude.{◌≡◌};
+ghost use Rattle.engine.specs.Moves.{step_of};
 
-// A counter's place among all counters, and its new value.
+use tables::Tables;
+use vocabulary::{Event, Line, Slot, Step, Worker};
+
+// A counter's place among all counters, and its value.
 #[derive(Clone, Copy)]
 pub struct Cell {
     pub at: usize,
@@ -12,7 +15,7 @@ pub struct Cell {
 // What an accepted choice answers, and what it changes: two counters (or one, twice), the line's slot, and the numbers.
 #[derive(Clone, Copy)]
 pub struct Change {
-    pub answer: Answer,
+    pub event: Event,
     pub first: Cell,
     pub second: Cell,
     pub slot: Slot,
@@ -21,16 +24,22 @@ pub struct Change {
     pub tables: Tables,
 }
 
-#[derive(Clone, Copy)]
-pub enum Turn {
-    Refused(Refusal),
-    Made(Change),
-}
-
-// What the checks of a choice come to: it is refused, or the line starts or finishes the pipe of its slot.
+// What the checks of a choice come to where it is not refused: the line starts or finishes the pipe of its slot.
 #[derive(Clone, Copy)]
 pub enum Move {
-    Refused(Refusal),
     Start(Slot),
     Finish(Slot),
+}
+
+// A step by the slot of its line.
+pub(crate) fn step_of(line: Line, slot: Slot, worker: Worker) -> Step
+    ensures { result ≡ step_of line slot worker }
+{
+    Step {
+        line,
+        pipe: slot.pipe,
+        token: slot.token,
+        place: slot.place,
+        worker,
+    }
 }

@@ -1,4 +1,4 @@
--- A choice that is agreed.
+-- A choice with leave.
 use Rattle.std.proofs.Common.{refl, ◌∙◌}
 use Rattle.rules.proofs.choices.Offered.{only_same}
 use Rattle.engine.proofs.choose.Goals as goal

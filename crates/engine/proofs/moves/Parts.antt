@@ -3,6 +3,7 @@ use mathlib.Core.Path.{◌≡◌}
 use mathlib.Core.Bool.{Bool}
 use mathlib.Core.List.{List}
 use Prim.Native.Nat.{ℕ, ◌<◌}
+use Rattle.std.specs.Prelude.{Ok}
 use Rattle.vocabulary.specs.declared.Slots.{Slots}
 use Rattle.vocabulary.specs.declared.refusal.Refusal.{Refusal}
 use Rattle.vocabulary.specs.Refusals.{number_of}
@@ -14,11 +15,10 @@ use Rattle.tables.specs.State as tables
 use Rattle.state.specs.declared.State.{State}
 use Rattle.engine.specs.declared.Chosen.{Chosen}
 use Rattle.engine.specs.declared.turn.Change.{Change}
-use Rattle.engine.specs.declared.turn.Turn.{Turn}
 use Rattle.state.specs.declared.Figures.{Figures}
 use Rattle.state.specs.Machines.{slots_of, figures_of, machine_of, whole}
 use Rattle.engine.specs.Machines.{refused_by, chosen_of}
-use Rattle.engine.specs.Turns.{turned, Fits}
+use Rattle.engine.specs.Turns.{Turn, turned, Fits}
 use Rattle.rules.specs.Answers.{answer_of}
 
 -- the same state but for some of its parts
@@ -67,13 +67,6 @@ pub refused : {r : Chosen} (s : State) (why : Refusal) (m : List ℕ) → r ≡ 
     chosen_of r m ≡ refuse (machine_of s m) (number_of why)
 unfolding chosen_of answer_of
 refused s why m e = rw e
-
--- a turn whose counters are within the tables
-pub made_fits : (l : ℕ) {c : Change} {r : Turn} → r ≡ Turn.Made c → (c.first.at < 512) × (c.second.at < 512) → l < 32 → Fits l r
-made_fits l r-is h k = rw r-is (h.0, h.1, k)
-
-pub made_within : (l : ℕ) {c : Change} {r : Turn} → r ≡ Turn.Made c → Fits l r → (c.first.at < 512) × (c.second.at < 512) × (l < 32)
-made_within l r-is h = rw r-is at h
 
 -- what was worked out on a state's parts holds of the state: of an answer, and of a turn
 module _ (s : State) {f : Figures} {slots : Slots} (f-is : f ≡ figures_of s) (slots_are : slots ≡ slots_of s) (m : List ℕ) where

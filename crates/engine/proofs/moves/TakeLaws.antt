@@ -3,11 +3,12 @@ use mathlib.Core.Path.{◌≡◌, refl, sym, ap, ◌∙◌}
 use mathlib.Core.Bool.{Bool, true, false}
 use mathlib.Core.List.{List}
 use Prim.Native.Nat.{ℕ}
+use Rattle.std.specs.Prelude.{Result, Ok, Err, is_ok}
+use Rattle.rules.specs.Lists.{if}
 use Rattle.vocabulary.specs.declared.Line.{Line}
 use Rattle.vocabulary.specs.declared.Worker.{Worker}
 use Rattle.vocabulary.specs.declared.Slot.{Slot}
 use Rattle.vocabulary.specs.declared.Slots.{Slots}
-use Rattle.vocabulary.specs.declared.answer.Answer.{Answer}
 use Rattle.vocabulary.specs.declared.event.Event.{Event}
 use Rattle.vocabulary.specs.declared.event.EventRecord.{EventRecord}
 use Rattle.vocabulary.specs.declared.refusal.Refusal.{Refusal}
@@ -19,47 +20,64 @@ use Rattle.rules.specs.Choices.{refuse, start, choose}
 use Rattle.rules.specs.Answers.{answer_of}
 use Rattle.rules.specs.Offers.{is_refused, record_of, only_if, shown, take_record, take_offered}
 use Rattle.rules.proofs.choices.Outcomes.{refused_unchanged}
-use Rattle.rules.proofs.choices.Offered.{only_refused, only_other, shown_accepted}
+use Rattle.rules.proofs.choices.Offered.{only_refused, only_other, only_same, only_as, shown_accepted}
 use Rattle.rules.proofs.lists.Tests.{never}
 use Rattle.tables.specs.State as tables
 use Rattle.tables.specs.Calls.{memory_source}
+use Rattle.state.specs.declared.State.{State}
 use Rattle.state.specs.declared.Figures.{Figures}
 use Rattle.state.specs.Machines.{machine_of, whole}
-use Rattle.engine.specs.Moves.{finished_answer}
-use Rattle.engine.specs.Taking.{agrees_with, own_or}
+use Rattle.engine.specs.Moves.{finished_event}
+use Rattle.engine.specs.Turns.{Answer, turned}
+use Rattle.engine.specs.Machines.{chosen_of}
+use Rattle.engine.proofs.moves.Parts.{refused}
+use Rattle.engine.specs.Taking.{other_of, agrees_with, leave_if}
 
-module _ (m : Machine tables.State) (w l : ℕ) where
+-- an event is no refusal
+no_refusal : (e : Event) → is_refused (answer_of (Ok e)) ≡ false
+unfolding answer_of
+no_refusal (Event.Started s) = refl
+no_refusal (Event.Finished s) = refl
+no_refusal (Event.Stopped s) = refl
+
+-- a choice without leave, by what it would answer: its own refusal, or the other
+module _ (s : State) (mem : List ℕ) (w l : ℕ) {leave : Result (Unit {0}) Refusal} {other : Refusal} (none : leave ≡ Err other) where
+  abbrev m : Machine tables.State
+  m = machine_of s mem
+
   abbrev chosen : rules.Chosen tables.State
   chosen = choose memory_source m w l
 
-  -- a choice that is not agreed: its own refusal, or the other
-  module _ (other : Refusal) {agreed : Bool} (differs : agreed ≡ false) where
-    abbrev made : rules.Chosen tables.State
-    made = only_if m agreed (number_of other) chosen
+  abbrev Refuses : Refusal → Type 0
+  Refuses why = chosen_of (turned s l (Err why)) mem ≡ only_if m (is_ok leave) (other_of leave) chosen
 
-    own_refusal : (why : Refusal) → rules.Refused (number_of why) ≡ chosen.answer → refuse m (number_of why) ≡ made
-    own_refusal why told =
-        let unchanged = refused_unchanged memory_source m w l (number_of why) (sym told) in
-        let chosen_is : refuse m (number_of why) ≡ chosen = λ i. record { answer = told i; machine = sym unchanged i } in
-        chosen_is ∙ sym (only_refused m agreed (number_of other) chosen (ap is_refused (sym told)))
-
-    other_refusal : is_refused chosen.answer ≡ false → refuse m (number_of other) ≡ made
-    other_refusal ok = sym (only_other m agreed (number_of other) chosen ok differs)
-
-    pub own_or_other : (a : Answer) {why : Refusal} → answer_of a ≡ chosen.answer → why ≡ own_or a other → refuse m (number_of why) ≡ made
+  module _ {told : Answer} (told_is : answer_of told ≡ chosen.answer) where
+    pub own_refusal : {why : Refusal} → told ≡ Err why → Refuses why
     unfolding answer_of
-    own_or_other (Answer.Started s) told why-is = ap (λ v. refuse m (number_of v)) why-is ∙ other_refusal (ap is_refused (sym told))
-    own_or_other (Answer.Finished s) told why-is = ap (λ v. refuse m (number_of v)) why-is ∙ other_refusal (ap is_refused (sym told))
-    own_or_other (Answer.Stopped s) told why-is = ap (λ v. refuse m (number_of v)) why-is ∙ other_refusal (ap is_refused (sym told))
-    own_or_other (Answer.Refused v) told why-is = ap (λ v. refuse m (number_of v)) why-is ∙ own_refusal v told
+    own_refusal {why} e =
+        let answer : rules.Refused (number_of why) ≡ chosen.answer = rw e at told_is in
+        let unchanged = refused_unchanged memory_source m w l (number_of why) (sym answer) in
+        let chosen_is : refuse m (number_of why) ≡ chosen = λ i. record { answer = answer i; machine = sym unchanged i } in
+        refused s why mem refl ∙ chosen_is ∙ sym (only_refused m (is_ok leave) (other_of leave) chosen (ap is_refused (sym answer)))
+
+    pub other_refusal : {event : Event} → told ≡ Ok event → Refuses other
+    other_refusal {event} e =
+        let accepted : is_refused chosen.answer ≡ false = ap is_refused (sym told_is) ∙ ap (λ a. is_refused (answer_of a)) e ∙ no_refusal event in
+        refused s other mem refl ∙ sym (ap (λ v. only_if m (is_ok v) (other_of v) chosen) none ∙ only_other m false (number_of other) chosen accepted refl)
 
 -- an event beside a record
 agrees_is : (a : Answer) (r : EventRecord) → is_refused (answer_of a) ≡ false → agrees_with a r ≡ same_record (record_of (answer_of a)) r
 unfolding answer_of
-agrees_is (Answer.Started s) r ok = refl
-agrees_is (Answer.Finished s) r ok = refl
-agrees_is (Answer.Stopped s) r ok = refl
-agrees_is (Answer.Refused why) r ok = absurd (never ok)
+agrees_is (Ok (Event.Started s)) r ok = refl
+agrees_is (Ok (Event.Finished s)) r ok = refl
+agrees_is (Ok (Event.Stopped s)) r ok = refl
+agrees_is (Err why) r ok = absurd (never ok)
+
+-- what is made with leave where an answer is the record's event is made only if it is
+pub leave_told : {X : Type 0} (m : Machine X) (agreed : Bool) (other : Refusal) (c : rules.Chosen X) →
+    only_if m (is_ok (leave_if agreed other)) (other_of (leave_if agreed other)) c ≡ only_if m agreed (number_of other) c
+leave_told m true other c = only_same m true 0 c refl ∙ sym (only_same m true (number_of other) c refl)
+leave_told m false other c = refl
 
 -- where the choice that a record names is accepted, what its line shows is its event
 pub shown_agrees : (m : Machine tables.State) (r : EventRecord) (told : Answer) {agreed : Bool} →
@@ -71,6 +89,15 @@ shown_agrees m r told told_is agreed-is ok =
     told_is ∙ sym (shown_accepted memory_source m r.worker r.line ok) in
     agreed-is ∙ agrees_is told r (ap is_refused here ∙ ok) ∙ ap (λ a. same_record (record_of a) r) here
 
+-- so the choice that a record names, with leave where the events agree, is the taking of the record
+pub leave_takes : (m : Machine tables.State) (r : EventRecord) {leave : Result (Unit {0}) Refusal} (agreed : Bool) (other : Refusal) → leave ≡ leave_if agreed other →
+    (is_refused (choose memory_source m r.worker r.line).answer ≡ false → agreed ≡ same_record (record_of (choose memory_source m r.worker r.line).answer) r) →
+    only_if m (is_ok leave) (other_of leave) (choose memory_source m r.worker r.line) ≡ take_record memory_source m r (number_of other)
+leave_takes m r agreed other leave_is alike =
+    let c : rules.Chosen tables.State = choose memory_source m r.worker r.line in
+    ap (λ v. only_if m (is_ok v) (other_of v) c) leave_is ∙ leave_told m agreed other c ∙
+    only_as m agreed (same_record (record_of c.answer) r) (number_of other) c alike
+
 -- the taking of an event is that of its record
 pub takes_event : (m : Machine tables.State) (e : Event) {r : EventRecord} {x : rules.Chosen tables.State} → r ≡ event_record e →
     x ≡ take_record memory_source m r 19 → x ≡ take_offered memory_source m e
@@ -78,15 +105,15 @@ takes_event m e r-is h = rw r-is at h
 
 -- what the slot of a line and the tables say, by the code's parts of a state
 module _ (f : Figures) (counters : List ℕ) (slots : Slots) (worker : Worker) (line : Line) (mem : List ℕ)
-    {slot : Slot} (slot_is : slot_at slots line.0 ≡ slot) (a : Answer) where
+    {slot : Slot} (slot_is : slot_at slots line.0 ≡ slot) where
   abbrev here : Machine tables.State
   here = machine_of (whole f counters slots) mem
 
-  pub shown_finish : slot.running ≡ true → a ≡ finished_answer line slot → answer_of a ≡ shown memory_source here worker.0 line.0
+  pub shown_finish : {e : Event} → slot.running ≡ true → e ≡ finished_event line slot → answer_of (Ok e) ≡ shown memory_source here worker.0 line.0
   unfolding shown answer_of machine_of
-  shown_finish runs a-is = rw (a-is, slot_is, runs)
+  shown_finish runs e_is = rw (e_is, slot_is, runs)
 
-  pub shown_start : slot.running ≡ false → answer_of a ≡ (start memory_source here worker.0 line.0).answer →
+  pub shown_start : (a : Answer) → slot.running ≡ false → answer_of a ≡ (start memory_source here worker.0 line.0).answer →
       answer_of a ≡ shown memory_source here worker.0 line.0
   unfolding shown machine_of
-  shown_start waits would = rw (slot_is, waits) would
+  shown_start a waits would = rw (slot_is, waits) would

@@ -3,10 +3,14 @@ use Rattle.std.proofs.Common.{arith}
 use Rattle.engine.proofs.moves.FinishLaws as laws
 use Rattle.engine.proofs.finishing.both_falls.Goals as goal
 
-pub returns : goal.returns
-returns c =
-    let both = laws.both_told c.args.f c.args.counters.now c.args.l c.args.slot c.next_of-line_after.ensures c.next_of-pipe_after.ensures
-    (omega (arith, laws.next_less _ _ c.requires.line c.next_of-line_after.ensures, c.requires))
-    (omega (arith, laws.next_less _ _ c.requires.pipe c.next_of-pipe_after.ensures, c.requires))
-    c.fall.ensures in
-    record { same = both.0; fits = both.1 }
+pub returns-clause-same : goal.returns-clause-same
+returns-clause-same c =
+    laws.both_told c.args.f c.args.counters.now c.args.l c.args.slot c.from.ensures c.next_of.ensures c.next_of-2.ensures
+    c.counter_of-beside.ensures c.counter_of-ahead.ensures c.fall.ensures
+
+pub returns-clause-fits : goal.returns-clause-fits
+returns-clause-fits c =
+    laws.both_within c.args.f c.args.counters.now c.args.l c.args.slot c.from.ensures c.next_of.ensures c.next_of-2.ensures
+    c.counter_of-beside.ensures c.counter_of-ahead.ensures c.fall.ensures
+    (omega (arith, laws.next_less _ _ c.requires.line c.next_of.ensures, c.requires))
+    (omega (arith, laws.next_less _ _ c.requires.pipe c.next_of-2.ensures, c.requires))

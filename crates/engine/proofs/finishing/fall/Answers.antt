@@ -1,23 +1,24 @@
--- The falls, by the tests of the code.
-use Rattle.rules.proofs.lists.Tests.{tests}
-use Rattle.engine.specs.Moves.{falls_of}
+-- The falls, one after the other.
+use Rattle.std.proofs.Common.{◌∙◌}
 use Rattle.engine.proofs.moves.FinishLaws as laws
 use Rattle.engine.proofs.finishing.fall.Goals as goal
 
-pub returns-then-near-eq0 : goal.returns-then-near-eq0
-unfolding falls_of
-returns-then-near-eq0 c = search tests depth 12
+pub returns-in_err-second : goal.returns-in_err-second
+returns-in_err-second c =
+    c.from_residual.ensures ∙ laws.falls_ahead _ _ c.if-not-serial.true c.lowered.ensures c.in_err-second.was
 
-pub returns-then-left-eq0 : goal.returns-then-left-eq0
-returns-then-left-eq0 c = laws.falls_low _ _ _ _ c.if-serial.true c.if-near-eq0.false c.left_ahead-left.ensures c.if-left-eq0.true
+pub returns-then-not-serial : goal.returns-then-not-serial
+returns-then-not-serial c = laws.falls_ahead _ _ c.if-not-serial.true c.lowered.ensures c.in_ok-second.was
 
-pub returns-then-serial : goal.returns-then-serial
-returns-then-serial c = laws.falls_both _ _ _ _ c.if-serial.true c.if-near-eq0.false c.left_ahead-left.ensures c.if-left-eq0.false
+pub returns-in_err-first : goal.returns-in_err-first
+returns-in_err-first c =
+    c.from_residual-in_err-first.ensures ∙ laws.falls_low _ _ c.if-not-serial.false c.lowered-2.ensures c.in_err-first.was
 
-pub returns-then-far-eq0 : goal.returns-then-far-eq0
-unfolding falls_of
-returns-then-far-eq0 c = search tests depth 12
+pub returns-in_err-second-2 : goal.returns-in_err-second-2
+returns-in_err-second-2 c =
+    c.from_residual-in_err-second-2.ensures ∙
+    laws.falls_both _ _ c.if-not-serial.false c.lowered-2.ensures c.in_ok-first.was c.left_ahead.ensures c.lowered-3.ensures c.in_err-second-2.was
 
 pub returns : goal.returns
-unfolding falls_of
-returns c = search tests depth 12
+returns c =
+    laws.falls_both _ _ c.if-not-serial.false c.lowered-2.ensures c.in_ok-first.was c.left_ahead.ensures c.lowered-3.ensures c.in_ok-second-2.was

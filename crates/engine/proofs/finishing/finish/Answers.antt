@@ -1,24 +1,23 @@
 -- A finish, case by case.
-use Rattle.engine.proofs.moves.Kept.{passed_kept}
+use Rattle.std.proofs.lemmas.Result.{err_from_is_err_and}
 use Rattle.engine.proofs.moves.FinishLaws as laws
-use borrow.Author.Tests.{not-true, not-false}
 use Rattle.engine.proofs.finishing.finish.Goals as goal
 
-pub returns-then-not-fallen-clause-follows : goal.returns-then-not-fallen-clause-follows
-returns-then-not-fallen-clause-follows c = λ slots at.
-    laws.finish_low _ _ slots _ _ at _ c.both_falls-fallen.ensures.same (not-true _ c.if-not-fallen.true)
+pub returns-in_default-clause-follows : goal.returns-in_default-clause-follows
+returns-in_default-clause-follows c = λ slots at. laws.finish_low _ _ slots _ _ at _ c.both_falls.ensures.same c.in_default.is
 
 pub returns-then-slot-ne0-clause-follows : goal.returns-then-slot-ne0-clause-follows
 returns-then-slot-ne0-clause-follows c = λ slots at.
-    laws.finish_later _ _ slots _ _ at _ c.both_falls-fallen.ensures.same (not-false _ c.if-not-fallen.false) c.if-slot-ne0.true c.settle.ensures
+    laws.finish_later _ _ slots _ _ at _ c.both_falls.ensures.same c.in-Some.is c.if-slot-ne0.true c.settle.ensures
 
-pub returns-in-Broken-clause-follows : goal.returns-in-Broken-clause-follows
-returns-in-Broken-clause-follows c = λ slots at.
-    laws.finish_broken _ _ slots _ _ at _ c.both_falls-fallen.ensures.same (not-false _ c.if-not-fallen.false) c.if-slot-ne0.false
-    c.release.ensures.answer c.release.ensures.memory c.in-Broken.is
+pub returns-in_err-tables-clause-follows : goal.returns-in_err-tables-clause-follows
+returns-in_err-tables-clause-follows c = λ slots at.
+    let (why, is, same) = err_from_is_err_and c.from_residual.result c.from_residual.ensures.1 in
+    rw is
+    (laws.finish_broken _ _ slots _ _ at _ c.both_falls.ensures.same c.in-Some.is c.if-slot-ne0.false
+    c.release.ensures.answer c.release.ensures.memory c.in_err-tables.was same)
 
-pub returns-in-Passed-clause-follows : goal.returns-in-Passed-clause-follows
-returns-in-Passed-clause-follows c = λ slots at.
-    laws.finish_passed _ _ slots _ _ at _ c.both_falls-fallen.ensures.same (not-false _ c.if-not-fallen.false) c.if-slot-ne0.false
-    c.release.ensures.answer c.release.ensures.memory c.in-Passed.is
-    (passed_kept _ _ _ c.release.ensures.answer c.in-Passed.is) c.settle-in-Passed.ensures
+pub returns-clause-follows : goal.returns-clause-follows
+returns-clause-follows c = λ slots at.
+    laws.finish_passed _ _ slots _ _ at _ c.both_falls.ensures.same c.in-Some.is c.if-slot-ne0.false
+    c.release.ensures.answer c.release.ensures.memory c.in_ok-tables.was c.settle-2.ensures

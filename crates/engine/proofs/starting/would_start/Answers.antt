@@ -7,4 +7,4 @@ returns-then-slot-eq0 c = λ counters slots at.
     laws.would_first _ counters slots _ _ _ _ at _ c.if-slot-eq0.true (c.would_start_first.ensures counters slots)
 
 pub returns : goal.returns
-returns c = λ counters slots at. laws.would_later _ counters slots _ _ _ _ at c.if-slot-eq0.false
+returns c = λ counters slots at. laws.would_later _ counters slots _ _ _ _ at c.if-slot-eq0.false c.step_of.ensures
