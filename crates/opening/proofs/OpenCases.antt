@@ -1,4 +1,5 @@
 -- Opening, case by case, as the code meets them.
+use Rattle.std.specs.Prelude.{Result, Ok, Err, IfOk}
 use mathlib.Core.Path.{◌≡◌, sym, ap, ◌∙◌}
 use mathlib.Core.Bool.{Bool}
 use mathlib.Core.List.{List, map}
@@ -9,13 +10,11 @@ use Rattle.vocabulary.specs.declared.refusal.Refusal.{Refusal}
 use Rattle.vocabulary.specs.PipeKinds.{kind_of}
 use Rattle.plan.specs.Reading.{read_of, reading_of}
 use Rattle.plan.specs.declared.trailer.Header.{Header}
-use Rattle.plan.specs.declared.Reading.{Reading}
 use Rattle.loading.specs.Plans.{serial_of}
 use Rattle.loading.specs.Loading.{load_of}
 use Rattle.loading.proofs.loading.PlanRead.{PlanRead, refused_read}
-use Rattle.loading.proofs.loading.LoadCases.{loaded_read}
+use Rattle.loading.proofs.loading.LoadCases.{loaded_read, was_read}
 use Rattle.state.specs.declared.State.{State}
-use Rattle.opening.specs.declared.Opening.{Opening}
 use Rattle.opening.specs.declared.Opened.{Opened}
 use Rattle.opening.specs.Opened.{opened_counters, fresh_state, refused_with, opened_with, opened_by, open_of}
 
@@ -24,17 +23,22 @@ module _ (file : List ℕ) (workers : ℕ) {h : Header} (read : PlanRead file h)
   pub begins : {serial : List Bool} {counters : List ℕ} {state : State} →
       serial ≡ serial_of (map kind_of (take h.pipes (drop h.start file))) →
       counters ≡ opened_counters serial h.pipes h.lines → state ≡ fresh_state h.pipes h.lines workers serial counters h.tokens →
-      (m : List ℕ) → record { answer = Opening.Accepted; state = state } ≡ opened_by (read_of file) workers m
+      (m : List ℕ) → record { answer = Ok tt; state = state } ≡ opened_by (read_of file) workers m
   unfolding opened_by opened_with opened tabled
   begins s-is c-is state_is m =
       rw read.reads
-      (ap {B = Opened} (λ (s : State). record { answer = Opening.Accepted; state = s }) (state_is ∙ rw (c-is, s-is, read.kinds, ← read.header)))
+      (ap {B = Opened} (λ (s : State). record { answer = Ok tt; state = s }) (state_is ∙ rw (c-is, s-is, read.kinds, ← read.header)))
 
 -- a loading that is refused, and one that is not
-module _ (file : List ℕ) (workers : ℕ) (m : List ℕ) {loaded : Reading} (told : loaded ≡ reading_of (load_of file workers m).0) where
-  pub refuses : {r : Opened} (why : Refusal) → loaded ≡ Reading.Refused why → r ≡ refused_with why → r ≡ (open_of file workers m).0
+module _ (file : List ℕ) (workers : ℕ) (m : List ℕ) where
+  pub refuses : {r : Opened} {why : Refusal} → Err why ≡ reading_of (load_of file workers m).0 → r ≡ refused_with why → r ≡ (open_of file workers m).0
   unfolding opened_by
-  refuses why e r-is = rw (refused_read (load_of file workers m).0 why (sym told ∙ e)) r-is
+  refuses {why = why} told r-is = rw (refused_read (load_of file workers m).0 why (sym told)) r-is
 
-  pub opens : {r : Opened} {h : Header} → loaded ≡ Reading.Accepted h → r ≡ opened_by (read_of file) workers m → r ≡ (open_of file workers m).0
-  opens {h = h} e r-is = rw (loaded_read (read_of file) workers m h (sym told ∙ e)) r-is
+  pub opens : {r : Opened} {h : Header} → Ok h ≡ reading_of (load_of file workers m).0 → r ≡ opened_by (read_of file) workers m → r ≡ (open_of file workers m).0
+  opens {h = h} told r-is = rw (loaded_read (read_of file) workers m h (sym told)) r-is
+
+  -- a plan that is loaded was read
+  pub loaded_plan : (loaded : Result Header Refusal) → loaded ≡ reading_of (load_of file workers m).0 → IfOk loaded (λ h. reading_of (read_of file) ≡ Ok h)
+  loaded_plan (Ok h) told = was_read file workers m told
+  loaded_plan (Err why) told = tt

@@ -1,5 +1,5 @@
 -- Opening a run: its answer, the state and the memory.
-use Rattle.std.specs.Prelude.{Bool, false, List, ℕ, get_or, replicate}
+use Rattle.std.specs.Prelude.{Bool, false, List, ℕ, get_or, replicate, Ok, Err}
 use Rattle.vocabulary.specs.declared.refusal.Refusal.{Refusal}
 use Rattle.rules.specs.RunState.{Machine, all_idle}
 use Rattle.rules.specs.Choices.{opened_counter, tabled, opened}
@@ -10,7 +10,6 @@ use Rattle.loading.specs.Plans.{pipeline_of}
 use Rattle.loading.specs.Layout.{laid_out}
 use Rattle.loading.specs.Loading.{load_of}
 use Rattle.state.specs.declared.State.{State}
-use Rattle.opening.specs.declared.Opening.{Opening}
 use Rattle.opening.specs.declared.Opened.{Opened}
 
 -- the state of a machine
@@ -56,14 +55,14 @@ fresh_state pipes lines workers serial counters tokens = record {
 
 -- a refused opening has a state of zeros
 unfoldable pub refused_with : Refusal → Opened
-refused_with why = record { answer = Opening.Refused why; state = fresh_state 0 0 0 (replicate 16 false) (replicate 512 0) 0 }
+refused_with why = record { answer = Err why; state = fresh_state 0 0 0 (replicate 16 false) (replicate 512 0) 0 }
 
 -- the machine that opening makes of a plan, and what is returned of it
 abbrev pub opened_machine : Plan → ℕ → List ℕ → Machine tables.State
 opened_machine p workers m = opened (pipeline_of p) workers (tables.opened_tables p.tokens, laid_out p.records m)
 
 unfoldable pub opened_with : Plan → ℕ → List ℕ → Opened
-opened_with p workers m = record { answer = Opening.Accepted; state = state_of (opened_machine p workers m) }
+opened_with p workers m = record { answer = Ok tt; state = state_of (opened_machine p workers m) }
 
 -- what is returned of a plan's loading: a refusal, or the opened run
 unfoldable pub opened_by : Outcome → ℕ → List ℕ → Opened

@@ -14,9 +14,8 @@ pub(crate) fn serials(bytes: &[u8]) -> [bool; 16]
     ensures { result ≡ serial_of (map kind_of bytes.now) }
 {
     let mut serial = [false; FLAGS];
-    for p in 0..bytes.len() {
-        let b = bytes[p];
-        serial[p] = b == PipeKind::SERIAL_BYTE;
+    for (p, byte) in bytes.iter().enumerate() {
+        serial[p] = *byte == PipeKind::SERIAL_BYTE;
     }
     serial
 }
@@ -26,17 +25,11 @@ pub(crate) fn serials(bytes: &[u8]) -> [bool; 16]
 fn counter(line: usize, pipe: usize, serial: bool) -> u8
     ensures { result ≡ opened_counter line pipe serial }
 {
-    if line == 0 {
-        if pipe == 0 {
-            return 0;
-        }
-        return 1;
+    match (line, pipe) {
+        (0, 0) => 0,
+        (0, _) | (_, 0) => 1,
+        _ => PipeKind::from_flag(serial).full(),
     }
-    if pipe == 0 {
-        return 1;
-    }
-    let kind = PipeKind::from_flag(serial);
-    kind.full()
 }
 
 // All counters: those of the plan's lines and pipes, and 0 for the unused ones.
@@ -47,8 +40,7 @@ pub(crate) fn counters(serial: [bool; 16], pipes: usize, lines: usize) -> [u8; 5
     let mut c = [0; COUNTERS];
     for line in 0..lines {
         for pipe in 0..pipes {
-            let s = serial[pipe];
-            c[COUNTERS_OF_LINE * line + pipe] = counter(line, pipe, s);
+            c[COUNTERS_OF_LINE * line + pipe] = counter(line, pipe, serial[pipe]);
         }
     }
     c
@@ -66,19 +58,12 @@ pub(crate) fn fresh(
 ) -> State
     ensures { result ≡ fresh_state pipes lines workers serial counters tokens }
 {
-    let tables = tables::Tables {
-        tokens: tokens,
-        count: 0,
-        first: 0,
-        end: 0,
-        held: 0,
-    };
     State {
-        pipes: pipes,
-        lines: lines,
-        workers: workers,
-        serial: serial,
-        counters: counters,
+        pipes,
+        lines,
+        workers,
+        serial,
+        counters,
         at: [Pipe(0); SLOTS],
         running: [false; SLOTS],
         token: [Token(0); SLOTS],
@@ -86,6 +71,12 @@ pub(crate) fn fresh(
         worker: [Worker(0); SLOTS],
         placed: 0,
         stopped: false,
-        tables: tables,
+        tables: tables::Tables {
+            tokens,
+            count: 0,
+            first: 0,
+            end: 0,
+            held: 0,
+        },
     }
 }

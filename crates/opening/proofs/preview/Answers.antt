@@ -1,13 +1,9 @@
 -- `preview` meets its contract.
-use Rattle.loading.proofs.loading.LoadCases.{was_read}
-use Rattle.opening.proofs.OpenCases.{refuses, opens}
+use Rattle.opening.proofs.OpenCases.{loaded_plan}
 use Rattle.opening.proofs.preview.Goals as goal
 
-pub begin-requires : goal.begin-requires
-begin-requires c = was_read _ _ _ c.preview.ensures c.in-Accepted.is
+pub begin_loaded-requires : goal.begin_loaded-requires
+begin_loaded-requires c = loaded_plan _ _ c.args.mem.now _ c.preview-loaded.ensures
 
-pub returns-in-Refused : goal.returns-in-Refused
-returns-in-Refused c = refuses _ _ _ c.preview.ensures _ c.in-Refused.is c.refused.ensures
-
-pub returns-in-Accepted : goal.returns-in-Accepted
-returns-in-Accepted c = opens _ _ _ c.preview.ensures c.in-Accepted.is (c.begin.ensures _)
+pub returns : goal.returns
+returns c = c.begin_loaded.ensures _ c.preview-loaded.ensures
