@@ -14,39 +14,26 @@ use crate::moving::move_down;
 use crate::watching;
 use facts::left_hold;
 use tables::{
-    DEFERRED, FINISHED_MARK, Hold, READY, READY_MARK, Released, STANDINGS, TOKENS, Tables, Tally,
-    WATCHES,
+    DEFERRED, FINISHED_MARK, READY, READY_MARK, STANDINGS, Spoiled, TOKENS, Tables, Tally, WATCHES,
 };
 
 // Of the tokens that watch this one: how many no other number holds, and how many another does. The first of them is in the cell `watcher`.
-fn tally(mem: &[u16], tokens: u16, past: u16, watcher: usize, held: usize) -> Tally
+fn tally(mem: &[u16], tokens: u16, past: u16, watcher: usize, held: usize) -> Result<Tally, Spoiled>
     requires lent_in_bounds { (lent ≤ length mem.now) × (tokens ≤ most_tokens) }
     requires watcher_le_held { (watcher ≤ held) × (held ≤ most_tokens) }
     requires unwatched { Unwatched mem.now past watcher }
     ensures { result ≡ tally_of (left_hold (facts_of mem.now) tokens past) (sifted_from true mem.now deferred_at past 0 held) }
 {
-    let mut woken = 0;
-    let mut kept = 0;
-    let mut cell = watcher;
-    while cell < held {
-        let next = watching::next(mem, past, cell, held);
-        if next < held {
-            match left_hold(mem, tokens, past, mem[DEFERRED + next]) {
-                Hold::Unsound => return Tally::Unsound,
-                Hold::Free => {
-                    woken += 1;
-                    cell = next + 1;
-                }
-                Hold::By(_) => {
-                    kept += 1;
-                    cell = next + 1;
-                }
-            }
-        } else {
-            cell = next;
+    let mut tally = Tally { free: 0, held: 0 };
+    let mut from = watcher;
+    while let Some(cell) = watching::next(mem, past, from, held) {
+        match left_hold(mem, tokens, past, mem[DEFERRED + cell])? {
+            None => tally.free += 1,
+            Some(_) => tally.held += 1,
         }
+        from = cell + 1;
     }
-    Tally::Known(woken, kept)
+    Ok(tally)
 }
 
 // Gives each token that watches this one another number to watch, if another holds it; `kept` of them do have one.
@@ -57,20 +44,16 @@ fn renew(mem: &mut [u16], tokens: u16, past: u16, watcher: usize, held: usize, k
     requires kept_value { kept ≡ length (keep (λ t. is_held (left_hold (facts_of mem.old) tokens past t)) (sifted_from true mem.old deferred_at past 0 held)) }
     ensures { mem.new ≡ sets mem.old watches_at (renewed_from mem.old tokens past 0 held) }
 {
-    let mut cell = watcher;
+    let mut from = watcher;
     let mut left = kept;
     while 0 < left {
-        let next = watching::next(mem, past, cell, held);
-        let token = mem[DEFERRED + next];
-        match left_hold(mem, tokens, past, token) {
-            Hold::Unsound => cell = next + 1,
-            Hold::Free => cell = next + 1,
-            Hold::By(number) => {
-                mem[WATCHES + next] = number;
-                left -= 1;
-                cell = next + 1;
-            }
+        let cell = watching::next(mem, past, from, held).unwrap();
+        let token = mem[DEFERRED + cell];
+        if let Some(number) = left_hold(mem, tokens, past, token).unwrap_or(None) {
+            mem[WATCHES + cell] = number;
+            left -= 1;
         }
+        from = cell + 1;
     }
 }
 
@@ -82,12 +65,9 @@ fn queue_woken(mem: &mut [u16], past: u16, watcher: usize, held: usize, from: us
     ensures { mem.new ≡ sets mem.old from (sifted_from true mem.old deferred_at past 0 held) }
 {
     let mut cell = watcher;
-    let mut at = from;
-    while at < to {
-        let next = watching::next(mem, past, cell, held);
-        let token = mem[DEFERRED + next];
-        mem[at] = token;
-        at += 1;
+    for at in from..to {
+        let next = watching::next(mem, past, cell, held).unwrap();
+        mem[at] = mem[DEFERRED + next];
         cell = next + 1;
     }
 }
@@ -101,27 +81,13 @@ fn close_part(mem: &mut [u16], part: usize, past: u16, watcher: usize, held: usi
 {
     let mut at = part + watcher;
     let mut cell = watcher;
-    let mut left = n;
-    while 0 < left {
-        let next = watching::next(mem, past, cell, held);
+    for _ in 0..n {
+        let next = watching::next(mem, past, cell, held).unwrap();
         move_down(mem, part + cell, part + next, at);
         at += next - cell;
         cell = next + 1;
-        left -= 1;
     }
     move_down(mem, part + cell, part + held, at);
-}
-
-// Clears the cells from `from` up to `to`.
-fn clear(mem: &mut [u16], from: usize, to: usize)
-    requires { (from ≤ to) × (to ≤ length mem.old) }
-    ensures { mem.new ≡ sets mem.old from (replicate (to - from) 0) }
-{
-    let mut cell = from;
-    while cell < to {
-        mem[cell] = 0;
-        cell += 1;
-    }
 }
 
 // Marks the tokens in the cells from `from` up to `to` as ready.
@@ -130,11 +96,8 @@ fn mark_ready(mem: &mut [u16], from: usize, to: usize)
     requires below { Below most_tokens (slice from to mem.old) }
     ensures { mem.new ≡ marks mem.old ready_mark (slice from to mem.old) }
 {
-    let mut cell = from;
-    while cell < to {
-        let token = mem[cell];
-        mem[STANDINGS + (token as usize)] = READY_MARK;
-        cell += 1;
+    for cell in from..to {
+        mem[STANDINGS + usize::from(mem[cell])] = READY_MARK;
     }
 }
 
@@ -147,9 +110,9 @@ fn close_up(mem: &mut [u16], past: u16, watcher: usize, held: usize, n: u16)
 {
     close_part(mem, DEFERRED, past, watcher, held, n);
     close_part(mem, WATCHES, past, watcher, held, n);
-    let staying = held - (n as usize);
-    clear(mem, DEFERRED + staying, DEFERRED + held);
-    clear(mem, WATCHES + staying, WATCHES + held);
+    let staying = held - usize::from(n);
+    mem[DEFERRED + staying..DEFERRED + held].fill(0);
+    mem[WATCHES + staying..WATCHES + held].fill(0);
 }
 
 // Moves the tokens that still watch this one, `n` of them, to the ready queue, which has room for them.
@@ -162,45 +125,40 @@ fn move_woken(mem: &mut [u16], t: Tables, past: u16, watcher: usize, n: u16) -> 
     ensures answer { ◌≡◌ {A = Tables} result (record { tokens = t.tokens; count = t.count; first = t.first; end = t.end + n; held = length (sifted_from false mem.old deferred_at past 0 t.held) }) }
     ensures memory { mem.new ≡ moved_by mem.old t.end t.held past (sifted_from true mem.old deferred_at past 0 t.held) (sifted_from false mem.old deferred_at past 0 t.held) (sifted_from false mem.old watches_at past 0 t.held) }
 {
-    let held = t.held as usize;
-    let from = READY + (t.end as usize);
-    let to = from + (n as usize);
+    let held = usize::from(t.held);
+    let from = READY + usize::from(t.end);
+    let to = from + usize::from(n);
     queue_woken(mem, past, watcher, held, from, to);
     close_up(mem, past, watcher, held, n);
     mark_ready(mem, from, to);
-    mem[STANDINGS + (past as usize)] = FINISHED_MARK;
+    mem[STANDINGS + usize::from(past)] = FINISHED_MARK;
     Tables {
-        tokens: t.tokens,
-        count: t.count,
-        first: t.first,
         end: t.end + n,
         held: t.held - n,
+        ..t
     }
 }
 
 // A token that others watch finishes pipe 0. The first of them is in the cell `watcher`.
-fn release_watched(mem: &mut [u16], t: Tables, past: u16, watcher: usize) -> Released
+fn release_watched(mem: &mut [u16], t: Tables, past: u16, watcher: usize) -> Result<Tables, Spoiled>
     requires in_range { InRange t }
     requires lent_in_bounds { (lent ≤ length mem.old) × (past < t.tokens) }
     requires watcher_le_held { (watcher ≤ t.held) × Unwatched mem.old past watcher }
     ensures answer { result ≡ released_of (release_of t past mem.old) }
     ensures memory { mem.new ≡ released_memory mem.old (release_of t past mem.old) }
 {
-    let held = t.held as usize;
-    let found = tally(mem, t.tokens, past, watcher, held);
-    let Tally::Known(woken, kept) = found else {
-        return Released::Broken;
-    };
-    if TOKENS - t.end < woken {
-        return Released::Broken;
+    let held = usize::from(t.held);
+    let watchers = tally(mem, t.tokens, past, watcher, held)?;
+    if TOKENS - t.end < watchers.free {
+        return Err(Spoiled);
     }
-    renew(mem, t.tokens, past, watcher, held, kept);
+    renew(mem, t.tokens, past, watcher, held, watchers.held);
     // Where no token wakes nothing moves.
-    if woken == 0 {
-        mem[STANDINGS + (past as usize)] = FINISHED_MARK;
-        return Released::Passed(t);
+    if watchers.free == 0 {
+        mem[STANDINGS + usize::from(past)] = FINISHED_MARK;
+        return Ok(t);
     }
-    Released::Passed(move_woken(mem, t, past, watcher, woken))
+    Ok(move_woken(mem, t, past, watcher, watchers.free))
 }
 
 // Whether a token's finish would pass: no record of a token that watches it is bad, and the queue has room for those that wake.
@@ -209,36 +167,26 @@ pub(crate) fn would_release(mem: &[u16], t: Tables, past: u16) -> bool
     requires lent_in_bounds { lent ≤ length mem.now }
     ensures { result ≡ passes (release_of t past mem.now) }
 {
-    if t.tokens <= past {
-        return false;
-    }
-    let held = t.held as usize;
-    let found = tally(mem, t.tokens, past, 0, held);
-    let Tally::Known(woken, _) = found else {
-        return false;
-    };
-    if TOKENS - t.end < woken {
-        return false;
-    }
-    true
+    let held = usize::from(t.held);
+    let room = TOKENS - t.end;
+    past < t.tokens && tally(mem, t.tokens, past, 0, held).is_ok_and(|found| found.free <= room)
 }
 
 // A token finishes pipe 0: its waiters lose it, and those with none left become ready.
-pub(crate) fn release(mem: &mut [u16], t: Tables, past: u16) -> Released
+pub(crate) fn release(mem: &mut [u16], t: Tables, past: u16) -> Result<Tables, Spoiled>
     requires in_range { InRange t }
     requires lent_in_bounds { lent ≤ length mem.old }
     ensures answer { result ≡ released_of (release_of t past mem.old) }
     ensures memory { mem.new ≡ released_memory mem.old (release_of t past mem.old) }
 {
     if t.tokens <= past {
-        return Released::Broken;
+        return Err(Spoiled);
     }
-    let held = t.held as usize;
-    let watcher = watching::next(mem, past, 0, held);
-    if watcher < held {
+    let held = usize::from(t.held);
+    if let Some(watcher) = watching::next(mem, past, 0, held) {
         return release_watched(mem, t, past, watcher);
     }
     // Most tokens are watched by none: then only the standing changes.
-    mem[STANDINGS + (past as usize)] = FINISHED_MARK;
-    Released::Passed(t)
+    mem[STANDINGS + usize::from(past)] = FINISHED_MARK;
+    Ok(t)
 }

@@ -1,3 +1,4 @@
+use Rattle.std.proofs.Common.{◌∙◌}
 use Rattle.tables.proofs.code.CallLaws as laws
 use Rattle.releasing.proofs.would_release.Goals as goal
 
@@ -10,5 +11,5 @@ would_release-requires-clause-lent_in_bounds c = (laws.in_range c.args.t c.args.
 pub returns-then-sound : goal.returns-then-sound
 returns-then-sound c = laws.passes_too c.args.t c.args.mem.now c.sound.ensures c.args.past c.if-sound.true c.would_release.ensures
 
-pub returns : goal.returns
-returns c = laws.passes_not c.args.t c.args.mem.now c.sound.ensures c.args.past c.if-sound.false
+pub returns-else-sound : goal.returns-else-sound
+returns-else-sound c = c.if-sound.false ∙ laws.passes_not c.args.t c.args.mem.now c.sound.ensures c.args.past c.if-sound.false

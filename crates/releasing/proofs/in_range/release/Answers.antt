@@ -8,8 +8,8 @@ use Rattle.tables.proofs.code.ReleasingLaws.{release_beyond}
 use Rattle.releasing.proofs.in_range.release.Goals as goal
 
 -- the first cell that watches the token
-found : {t : Tables} {d : ℕ} {m : List ℕ} → InRange t → 32768 ≤ length m → {r : ℕ} → r ≡ next_from m d 0 t.held → Next m d 0 t.held r
-found {t = t} {d = d} {m = m} ok whole e = next_of m d t.held (omega (arith, ok.held, whole)) (omega arith) e
+found : {t : Tables} {d : ℕ} {m : List ℕ} → InRange t → 32768 ≤ length m → {h r : ℕ} → h ≡ t.held → r ≡ next_from m d 0 h → Next m d 0 t.held r
+found {t = t} {d = d} {m = m} ok whole h-is e = next_of m d t.held (omega (arith, ok.held, whole)) (omega arith) (rw h-is at e)
 
 pub returns-then-t-past-clause-answer : goal.returns-then-t-past-clause-answer
 returns-then-t-past-clause-answer c = (release_beyond c.args.t c.args.past c.args.mem.now c.if-t-past.true).0
@@ -19,15 +19,16 @@ returns-then-t-past-clause-memory c = (release_beyond c.args.t c.args.past c.arg
 
 pub release_watched-requires-clause-watcher_le_held : goal.release_watched-requires-clause-watcher_le_held
 release_watched-requires-clause-watcher_le_held c =
-    let next = found {t = c.args.t} {d = c.args.past} c.requires.in_range c.requires.lent_in_bounds c.next-watcher.ensures in
+    let next = found {t = c.args.t} {d = c.args.past} c.requires.in_range c.requires.lent_in_bounds c.from-held.ensures c.in-Some.ensures.value in
     (next.upto, λ i below. next.none i (omega arith) below)
 
 pub returns-clause-answer : goal.returns-clause-answer
 returns-clause-answer c =
     (release_nobody c.args.t c.args.past c.args.mem.now c.requires.in_range c.requires.lent_in_bounds c.if-t-past.false
-    (found {t = c.args.t} {d = c.args.past} c.requires.in_range c.requires.lent_in_bounds c.next-watcher.ensures) c.if-watcher-held.false).0
+    (found {t = c.args.t} {d = c.args.past} c.requires.in_range c.requires.lent_in_bounds c.from-held.ensures c.in_default.ensures.value) (omega (arith, c.from-held.ensures))).0
 
 pub returns-clause-memory : goal.returns-clause-memory
 returns-clause-memory c =
+    rw c.from.ensures
     (release_nobody c.args.t c.args.past c.args.mem.now c.requires.in_range c.requires.lent_in_bounds c.if-t-past.false
-    (found {t = c.args.t} {d = c.args.past} c.requires.in_range c.requires.lent_in_bounds c.next-watcher.ensures) c.if-watcher-held.false).1
+    (found {t = c.args.t} {d = c.args.past} c.requires.in_range c.requires.lent_in_bounds c.from-held.ensures c.in_default.ensures.value) (omega (arith, c.from-held.ensures))).1

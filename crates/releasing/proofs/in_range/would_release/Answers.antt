@@ -1,21 +1,16 @@
-use Rattle.std.proofs.Common.{refl, arith}
+use Rattle.std.proofs.Common.{rules, ◌≡◌, ◌-◌, false, ◌∙◌}
+use Rattle.std.specs.Result.{MatchResult}
+use lib.Dec.{leb}
+use borrow.Author.Tests.{le-ltb}
 use Rattle.tables.proofs.code.ReleasingLaws as laws
+use Rattle.releasing.proofs.Room.{room_told}
 use Rattle.releasing.proofs.in_range.would_release.Goals as goal
 
-pub returns-then-t-past : goal.returns-then-t-past
-returns-then-t-past c = laws.told_broken _ (laws.release_beyond c.args.t c.args.past c.args.mem.now c.if-t-past.true).0
+pub returns-then-past-t : goal.returns-then-past-t
+returns-then-past-t c =
+    let told : MatchResult c.tally.result (λ w. c.is_ok_and.result ≡ leb w.free (4096 - c.args.t.end)) (λ e. c.is_ok_and.result ≡ false) = search rules in
+    room_told c.args.t c.args.past c.args.mem.now c.if-past-t.true c.requires.in_range.end c.tally.result (rw c.from-held.ensures at c.tally.ensures) told
 
-pub returns-in_default : goal.returns-in_default
-returns-in_default c =
-    laws.told_broken _ (laws.release_bad c.args.t c.args.past c.args.mem.now c.if-t-past.false c.tally-found.ensures c.in_default.is).0
-
-pub returns-then-t-woken : goal.returns-then-t-woken
-returns-then-t-woken c =
-    laws.told_broken _
-    (laws.release_full c.args.t c.args.past c.args.mem.now c.if-t-past.false c.tally-found.ensures c.in-Known.is (omega (arith, c.if-t-woken.true))).0
-
-pub returns : goal.returns
-returns c =
-    laws.told_passed _
-    (laws.release_moved c.args.t c.args.past c.args.mem.now c.if-t-past.false c.tally-found.ensures c.in-Known.is
-    (omega (arith, c.if-t-woken.false, c.requires.in_range.end)) refl refl).0
+pub returns-else-past-t : goal.returns-else-past-t
+returns-else-past-t c =
+    le-ltb c.args.past c.args.t.tokens c.if-past-t.false ∙ laws.told_broken _ (laws.release_beyond c.args.t c.args.past c.args.mem.now c.if-past-t.false).0

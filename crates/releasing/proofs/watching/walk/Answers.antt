@@ -1,13 +1,14 @@
 use Rattle.std.proofs.Common.{arith}
-use Rattle.tables.proofs.code.ScanLaws.{next_is, passed_hit, passed_end}
+use Rattle.releasing.proofs.Scanning.{walk_none, walk_some}
 use Rattle.releasing.proofs.watching.walk.Goals as goal
 
-pub returns-then-mem-cell : goal.returns-then-mem-cell
-returns-then-mem-cell c =
-    next_is c.args.mem.now c.args.number c.args.held (omega (arith, c.requires.0, c.requires.1.1)) c.requires.1.0
-    (passed_hit c.loop-cell.invariant.1 c.loop-cell-test.true c.if-mem-cell.true)
+pub returns-in_err-place-clause-value : goal.returns-in_err-place-clause-value
+returns-in_err-place-clause-value c =
+    rw c.from_residual.ensures
+    (walk_none c.args.mem.now c.args.number c.args.from c.args.held (omega (arith, c.requires.0, c.requires.1.1)) c.requires.1.0 c.place_of.ensures
+    c.in_err-place.was)
 
-pub returns : goal.returns
-returns c =
-    next_is c.args.mem.now c.args.number c.args.held (omega (arith, c.requires.0, c.requires.1.1)) c.requires.1.0
-    (passed_end c.loop-cell.invariant.1 c.requires.1.0 c.loop-cell-test.false)
+pub returns-clause-value : goal.returns-clause-value
+returns-clause-value c =
+    walk_some c.args.mem.now c.args.number c.args.from c.args.held (omega (arith, c.requires.0, c.requires.1.1)) c.requires.1.0 c.place_of.ensures
+    c.in_ok-place.was

@@ -1,9 +1,0 @@
-use Rattle.std.proofs.Common.{◌-◌, ◌≤◌}
-use Rattle.tables.proofs.code.ScanLaws.{Passed}
-use Rattle.releasing.proofs.watching.walk.Given as goal
-
-abbrev pub invariant-loop-cell : goal.invariant-loop-cell
-invariant-loop-cell l = (l.cell ≤ l.held) × Passed l.mem l.number l.from l.held l.cell
-
-abbrev pub decreases-loop-cell : goal.decreases-loop-cell
-decreases-loop-cell l = l.held - l.cell
