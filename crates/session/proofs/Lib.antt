@@ -1,2 +1,0 @@
--- The proofs of a session: what is printed.
-pub mod PrintedLaws
