@@ -1,40 +1,20 @@
 -- The scan for the next cell that watches a number: a block at a time, then one cell after the other.
-use mathlib.Core.Path.{◌≡◌, refl, sym, ap, subst, ◌∙◌}
+use mathlib.Core.Path.{◌≡◌, sym, ap, subst, ◌∙◌}
 use mathlib.Core.Logic.{by_cases}
-use mathlib.Core.Bool.{Bool, true, false, ◌||◌, true≢false}
+use mathlib.Core.Bool.{false, true≢false}
 use mathlib.Core.List.{List, [], ◌∷◌}
 use Prim.Native.Nat.{ℕ, zero, suc, ◌+◌, ◌-◌, ◌<◌, ◌≤◌}
 use native.Mathlib.Omega.{arith}
 use native.Mathlib.Decide.{dec_lt}
-use native.Mathlib.Nat.{add-zero}
 use native.Mathlib.Numerals.{add-one}
 use borrow.Author.Tests.{eq-eqb, eqb-true, eqb-false}
 use lib.Dec.{eqb}
 use lib.ListN.{length, get_or, take}
 use lib.Seq.{slice, length-slice, get_or-drop, get_or-take}
-use Rattle.rules.specs.Lists.{if, has}
-use Rattle.rules.proofs.lists.Tests.{by_test, if_eta}
+use Rattle.rules.specs.Lists.{has}
+use Rattle.rules.proofs.lists.Tests.{by_test}
 use Rattle.tables.specs.Releasing.{next_in, next_from}
 use Rattle.tables.proofs.memory.Cells.{row_next, row_end}
-
--- a block, with the cells from one on left: all are compared, and one that is the number tells
-module _ (m : List ℕ) (at d : ℕ) where
-  pub block_start : has (slice at (at + 64) m) d ≡ if false true (has (slice (at + 0) (at + 64) m) d)
-  block_start = rw (add-zero at)
-
-  module _ (found : Bool) (i : ℕ) (left : has (slice at (at + 64) m) d ≡ if found true (has (slice (at + i) (at + 64) m) d)) where
-    pub block_end : i ≤ 64 → 64 ≤ i → found ≡ has (slice at (at + 64) m) d
-    unfolding has
-    block_end l h = sym (left ∙ rw (row_end m at i 64 l h) (if_eta found))
-
-    pub block_next : i < 64 → at + 64 ≤ length m
-        → has (slice at (at + 64) m) d ≡ if (found || eqb (get_or m (at + i) 0) d) true (has (slice (at + (i + 1)) (at + 64) m) d)
-    unfolding has
-    block_next h l = left ∙ rw (row_next m at i 64 h l) (either found (eqb (get_or m (at + i) 0) d) _)
-      where
-        either : (f e x : Bool) → if f true (if e true x) ≡ if (f || e) true x
-        either true e x = refl
-        either false e x = refl
 
 -- a list without a number has it nowhere
 absent : (l : List ℕ) (d k : ℕ) → has l d ≡ false → k < length l → get_or l k 0 ≡ d → ⊥
@@ -100,21 +80,7 @@ pub record Passed (m : List ℕ) (d from held cell : ℕ) : Type 0 where
   pub start : from ≤ cell
   pub none : (i : ℕ) → from ≤ i → i < cell → i < held → get_or m (24576 + i) 0 ≡ d → ⊥
 
-pub passed_start : (m : List ℕ) (d from held : ℕ) → Passed m d from held from
-passed_start m d from held = record { start = omega arith; none = λ i l h k e. omega arith }
-
 module _ {m : List ℕ} {d from held cell : ℕ} (inv : Passed m d from held cell) where
-  pub passed_hit : cell < held → get_or m (24576 + cell) 0 ≡ d → Next m d from held cell
-  passed_hit h e = record { from = inv.start; upto = omega arith; none = λ i l k. inv.none i l k (omega arith); hit = λ _. e }
-
-  pub passed_next : (get_or m (24576 + cell) 0 ≡ d → ⊥) → Passed m d from held (cell + 1)
-  passed_next n = record {
-    start = omega (arith, inv.start);
-    none = λ i l h k e. by_cases (dec_lt i cell)
-        (λ before. inv.none i l before k e)
-        (λ not-before. let i-is : i ≡ cell = omega arith in n (rw i-is at e));
-  }
-
   pub passed_end : from ≤ held → held ≤ cell → Next m d from held held
   passed_end l h = record { from = l; upto = omega arith; none = λ i a b. inv.none i a (omega arith) b; hit = λ k. absurd (omega arith) }
 

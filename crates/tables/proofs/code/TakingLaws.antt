@@ -1,5 +1,5 @@
 -- The definitions of specs/Taking, case by case, as the code meets them.
-use mathlib.Core.Path.{◌≡◌, refl, sym, ap, ◌∙◌}
+use mathlib.Core.Path.{◌≡◌, refl, sym, ◌∙◌}
 use mathlib.Core.List.{List, [], ◌∷◌, map}
 use Prim.Native.Nat.{ℕ, zero, suc, ◌+◌, ◌-◌, ◌<◌, ◌≤◌}
 use native.Mathlib.Omega.{arith}
@@ -45,10 +45,6 @@ pub found_within : (f : List ℕ) (tokens count : ℕ) {r : Result ℕ TableErro
     (count ≤ u) × (u ≤ tokens)
 unfolding find_of
 found_within f tokens count l e h = first_within (new_hold f count) tokens (tokens - count) (omega arith) (sym e ∙ h)
-
--- answers that are the same have the same token and tables
-pub taken_parts : {o o' : Option ℕ} {t t' : Tables} → ◌≡◌ {A = Result Taken TableError} (Ok (taken o t)) (Ok (taken o' t')) → (o ≡ o') × (t ≡ t')
-taken_parts {o} {o'} {t} {t'} e = let same : taken o t ≡ taken o' t' = cc in (ap (λ a. a.token) same, ap (λ a. a.tables) same)
 
 -- what a code's answer and memory are to be, for an outcome
 abbrev pub Gives : List ℕ → Outcome State → Result Taken TableError → List ℕ → Type 0
@@ -171,18 +167,12 @@ watching_start m at count to whole upto high room =
     record { whole = whole; long = refl; upto = upto; high = high; room = room; same = refl; left = refl }
 
 module _ {m₀ : List ℕ} {at count to : ℕ} {m : List ℕ} {cell token : ℕ} (inv : Watching m₀ at count to m cell token) where
-  pub watching_whole : 32768 ≤ length m
-  watching_whole = omega (arith, inv.long, inv.whole)
-
   pub watching_end : to ≤ token → m ≡ sets m₀ at (map (watch_of (take 20480 m₀) count) (span count to))
   watching_end h =
       let none : map (watch_of (take 20480 m₀) count) (span token to) ≡ [] = rw (span_nil token to h) in
       sets_none m cell inv.left none
 
   module _ (more : token < to) where
-    pub watching_room : (cell < length m) × (cell < 32768)
-    watching_room = omega (arith, inv.room, inv.long, inv.whole)
-
     pub watching_next : {u : ℕ} → u ≡ watch_of (take 20480 m) count token → Watching m₀ at count to (set m cell u) (cell + 1) (token + 1)
     watching_next {u} u-is =
         let next : map (watch_of (take 20480 m₀) count) (span token to) ≡ watch_of (take 20480 m₀) count token ∷ map (watch_of (take 20480 m₀) count) (span (token + 1) to) =

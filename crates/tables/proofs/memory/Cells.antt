@@ -4,10 +4,9 @@ use mathlib.Core.List.{List, [], ◌∷◌, ◌++◌}
 use Prim.Native.Nat.{ℕ, suc, ◌+◌, ◌-◌, ◌<◌, ◌≤◌}
 use native.Mathlib.Omega.{arith}
 use native.Mathlib.Numerals.{add-one}
-use lib.ListN.{length, get_or, take, drop, set, replicate, length-append, take-append-drop}
+use lib.ListN.{length, get_or, take, drop, set, length-append, take-append-drop}
 use lib.Seq.{length-take-le, length-slice, sets, sets-eq, slice, take-set-le, drop-set-lt, take-take, drop-drop, take-add, take_at, drop_at}
 use lib.Seq.{get_or-take, get_or-drop, slice-cons, slice_empty}
-use Rattle.tables.specs.Layout.{standing_at}
 use Rattle.tables.specs.State.{span, marks}
 use Rattle.rules.specs.Lists.{range}
 
@@ -35,15 +34,6 @@ module _ (m : List ℕ) (at i n : ℕ) (more : i < n) where
 
 pub sets_done : (m : List ℕ) (at i n : ℕ) → n ≤ i → sets m at (span i n) ≡ m
 sets_done m at i n h = rw (span_nil i n h)
-
-module _ (m : List ℕ) (v i n : ℕ) where
-  pub marks_next : {at : ℕ} → i < n → at ≡ i → marks m v (span i n) ≡ marks (set m (standing_at + at) v) v (span (i + 1) n)
-  unfolding marks
-  marks_next h at-is = rw (at-is, span_cons i n h)
-
-  pub marks_done : n ≤ i → marks m v (span i n) ≡ m
-  unfolding marks
-  marks_done h = rw (span_nil i n h)
 
 -- two memories with the same cells below one, or from one on, have the same further down, or up, and the same single cells
 module _ (m m' : List ℕ) (n k : ℕ) where
@@ -80,17 +70,6 @@ marks_store m s e ts-are u-is = rw u-is (rw ts-are at e)
 pub marks_none : {whole : List ℕ} (m : List ℕ) (s : ℕ) {ts : List ℕ} → whole ≡ marks m s ts → ts ≡ [] → m ≡ whole
 unfolding marks
 marks_none m s e ts-are = sym (rw ts-are at e)
-
--- a run of zeros up to a cell: empty from that cell on, and one more before it
-pub zeros_next : (cell to : ℕ) → cell < to → replicate {A = ℕ} (to - cell) 0 ≡ 0 ∷ replicate (to - (cell + 1)) 0
-zeros_next cell to h =
-    let e : to - cell ≡ suc (to - (cell + 1)) = omega arith in
-    rw e
-
-pub zeros_end : (cell to : ℕ) → to ≤ cell → replicate {A = ℕ} (to - cell) 0 ≡ []
-zeros_end cell to h =
-    let e : to - cell ≡ 0 = omega arith in
-    rw e
 
 -- a run of stores leaves the cells before it and behind it alone, and its own cells hold the values
 pub take_sets : (vs m : List ℕ) (i n : ℕ) → n ≤ i → take n (sets m i vs) ≡ take n m

@@ -16,10 +16,6 @@ pub and_true : (b : Bool) {x : Bool} → if b x false ≡ true → (b ≡ true) 
 and_true true e = (refl, e)
 and_true false e = let z : ◌≡◌ {A = ℕ} 0 1 = cc in absurd (omega arith)
 
-pub nor_true : (b : Bool) {x : Bool} → if b false x ≡ true → (b ≡ false) × (x ≡ true)
-nor_true true e = let z : ◌≡◌ {A = ℕ} 0 1 = cc in absurd (omega arith)
-nor_true false e = (refl, e)
-
 -- tables that pass the test are within their ranges
 pub sound_range : (t : Tables) (m : List ℕ) → sound_of (t, m) ≡ true → InRange t × (32768 ≤ length m)
 unfolding sound_of
