@@ -1,9 +1,7 @@
 -- The laid-out memory. Reading order:
 -- how long its parts are;
 pub mod LayoutLaws
--- a walk that clears the memory;
-pub mod Clearing
--- a walk that marks where each record stands;
-pub mod Marking
--- clearing, copying and marking lay the records out.
+-- the walk that copies each record and marks where it stands;
+pub mod RecordWalk
+-- clearing, copying and marking lay the memory out.
 pub mod LayingOut

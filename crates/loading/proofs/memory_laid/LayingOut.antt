@@ -1,4 +1,4 @@
--- Clearing, copying the records and marking where they stand makes the memory that is laid out.
+-- Clearing the memory, copying the records and marking where they stand lays it out.
 use mathlib.Core.Path.{◌≡◌, refl, sym, ap, ◌∙◌}
 use mathlib.Core.Logic.{by_cases}
 use mathlib.Core.List.{List, [], ◌∷◌, ◌++◌, map, append_assoc}
@@ -9,8 +9,8 @@ use native.Mathlib.Numerals.{add-one}
 use native.Mathlib.Decide.{ℕ_discrete}
 use borrow.Author.Tests.{eq-eqb, ne_eqb, eqb-true}
 use lib.Dec.{eqb}
-use lib.ListN.{length, get_or, drop, set, length-append, length-set, replicate-append-replicate}
-use lib.Seq.{sets, sets-eq, drop_at, set-append_left, get_or-set_same, get_or-set_other, ext_get_or}
+use lib.ListN.{length, get_or, take, drop, set, replicate, length-append, length-set, replicate-append-replicate}
+use lib.Seq.{length-take-le, sets, sets-eq, drop_at, set-append_left, get_or-set_same, get_or-set_other, ext_get_or}
 use Rattle.rules.specs.Lists.{if, table}
 use Rattle.rules.proofs.lists.Tests.{by_test}
 use Rattle.rules.proofs.lists.ListTables.{get_d_table, length_table}
@@ -18,6 +18,7 @@ use Rattle.plan.specs.Plan.{Record, ValidRecord, AscendingFrom}
 use Rattle.rules.specs.Lists.{Every}
 use Rattle.loading.specs.Plans.{filled_up}
 use Rattle.loading.specs.Layout.{records_fields, place_of, zeros, laid_facts, laid_out, Spells, pointed}
+use Rattle.loading.proofs.memory_laid.RecordWalk.{laying}
 use Rattle.loading.proofs.memory_laid.LayoutLaws.{length_zeros, length_filled, zeros_at}
 
 -- runs of zeros
@@ -141,6 +142,7 @@ module _ (part m : List ℕ) (rs : List Record) (spells : Spells part rs) where
       )
       (outer (filled_up 12288 0 (records_fields rs)) (table 4096 (place_of 0 rs)) (zeros 4096) (zeros 12288) (drop 32768 m))
 
-  pub laid_by : {cleared stored-in marked : List ℕ} → cleared ≡ zeros 32768 ++ drop 32768 m → stored-in ≡ sets cleared 0 (records_fields rs) →
-      marked ≡ pointed stored-in 0 rs → marked ≡ laid_out rs m
-  laid_by c s e = e ∙ ap (λ (x : List ℕ). pointed x 0 rs) (s ∙ ap (λ (x : List ℕ). sets x 0 (records_fields rs)) c) ∙ laid_out_lem
+  pub laid_by : {cleared laid : List ℕ} → 32768 ≤ length m → cleared ≡ replicate (length (take 32768 m)) 0 →
+      laid ≡ laying (cleared ++ drop 32768 m) 0 rs → laid ≡ laid_out rs m
+  unfolding zeros
+  laid_by h c e = e ∙ rw (c, length-take-le 32768 m h) laid_out_lem
