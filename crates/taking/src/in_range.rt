@@ -1,9 +1,9 @@
-// Taking from tables whose numbers are within their ranges.
-ghost use Rattle.std.specs.Prelude.{◌≡◌, List, map, ℕ, ◌+◌, ◌-◌, ◌<◌, ◌≤◌, length};
+// The parts of a taking, on tables whose numbers are within their ranges.
+ghost use Rattle.std.specs.Prelude.{◌≡◌, map, ◌+◌, ◌-◌, ◌<◌, ◌≤◌, length};
 ghost use Rattle.std.proofs.lemmas.List.Edits.{sets};
 ghost use Rattle.tables.specs.Layout.{deferred_at, watches_at, lent, most_tokens, deferred_mark, facts_of};
 ghost use Rattle.tables.specs.State.{InRange, span, marks};
-ghost use Rattle.tables.specs.Taking.{find_of, watch_of, deferred_by, oldest_of, take_upto, take_ready, take_of, taken_of, taken_memory, offered_of};
+ghost use Rattle.tables.specs.Taking.{find_of, watch_of, deferred_by, oldest_of, take_upto, take_ready, taken_of, taken_memory};
 
 use facts::new_hold;
 use tables::{
@@ -11,7 +11,7 @@ use tables::{
 };
 
 // The first free token from Count on, or N where none is.
-fn find(mem: &[u16], tokens: u16, count: u16) -> Result<u16, Spoiled>
+pub(crate) fn find(mem: &[u16], tokens: u16, count: u16) -> Result<u16, Spoiled>
     requires lent_in_bounds { lent ≤ length mem.now }
     requires count_le_tokens { (count ≤ tokens) × (tokens ≤ most_tokens) }
     ensures { result ≡ find_of (facts_of mem.now) tokens count }
@@ -74,15 +74,14 @@ fn defer(mem: &mut [u16], count: u16, held: u16, upto: u16)
 }
 
 // Takes the first free token, after deferring those before it.
-fn take_upto(mem: &mut [u16], t: Tables, upto: u16) -> Result<Taken, Spoiled>
+pub(crate) fn take_upto(mem: &mut [u16], t: Tables, upto: u16) -> Result<Taken, Spoiled>
     requires in_range { InRange t }
     requires count_le_upto { (t.count ≤ upto) × (upto ≤ t.tokens) }
     requires lent_in_bounds { lent ≤ length mem.old }
     ensures answer { result ≡ taken_of (take_upto t mem.old (Ok upto)) }
     ensures memory { mem.new ≡ taken_memory mem.old (take_upto t mem.old (Ok upto)) }
 {
-    let passed = upto - t.count;
-    let held = t.held + passed;
+    let held = t.held + (upto - t.count);
     if TOKENS < held {
         return Err(Spoiled);
     }
@@ -108,7 +107,7 @@ fn take_upto(mem: &mut [u16], t: Tables, upto: u16) -> Result<Taken, Spoiled>
 }
 
 // Takes the oldest ready token.
-fn take_ready(mem: &mut [u16], t: Tables) -> Result<Taken, Spoiled>
+pub(crate) fn take_ready(mem: &mut [u16], t: Tables) -> Result<Taken, Spoiled>
     requires in_range { InRange t }
     requires first_lt_end { t.first < t.end }
     requires lent_in_bounds { lent ≤ length mem.old }
@@ -127,51 +126,4 @@ fn take_ready(mem: &mut [u16], t: Tables) -> Result<Taken, Spoiled>
             ..t
         },
     })
-}
-
-// What taking up to the first free token would give.
-fn would_take_upto(t: Tables, upto: u16) -> Result<Option<u16>, Spoiled>
-    requires in_range { InRange t }
-    requires count_le_upto { (t.count ≤ upto) × (upto ≤ t.tokens) }
-    ensures { (m : List ℕ) → result ≡ offered_of (take_upto t m (Ok upto)) }
-{
-    let passed = upto - t.count;
-    if TOKENS < t.held + passed {
-        return Err(Spoiled);
-    }
-    if upto < t.tokens {
-        return Ok(Some(upto));
-    }
-    Ok(None)
-}
-
-// What taking would give.
-pub(crate) fn would_take(mem: &[u16], t: Tables) -> Result<Option<u16>, Spoiled>
-    requires in_range { InRange t }
-    requires lent_in_bounds { lent ≤ length mem.now }
-    ensures { result ≡ offered_of (take_of t mem.now) }
-{
-    if t.first < t.end {
-        let token = mem[READY + usize::from(t.first)];
-        if token < t.tokens {
-            return Ok(Some(token));
-        }
-        return Err(Spoiled);
-    }
-    let upto = find(mem, t.tokens, t.count)?;
-    would_take_upto(t, upto)
-}
-
-// Takes a token: the oldest ready one, else a new one.
-pub(crate) fn take(mem: &mut [u16], t: Tables) -> Result<Taken, Spoiled>
-    requires in_range { InRange t }
-    requires lent_in_bounds { lent ≤ length mem.old }
-    ensures answer { result ≡ taken_of (take_of t mem.old) }
-    ensures memory { mem.new ≡ taken_memory mem.old (take_of t mem.old) }
-{
-    if t.first < t.end {
-        return take_ready(mem, t);
-    }
-    let upto = find(mem, t.tokens, t.count)?;
-    take_upto(mem, t, upto)
 }
