@@ -25,18 +25,18 @@ module _ (file : List ℕ) (workers : ℕ) {h : Header} (read : PlanRead file h)
       counters ≡ opened_counters serial h.pipes h.lines → state ≡ fresh_state h.pipes h.lines workers serial counters h.tokens →
       (m : List ℕ) → record { answer = Ok tt; state = state } ≡ opened_by (read_of file) workers m
   unfolding opened_by opened_with opened tabled
-  begins s-is c-is state_is m =
+  begins s_is c_is state_is m =
       rw read.reads
-      (ap {B = Opened} (λ (s : State). record { answer = Ok tt; state = s }) (state_is ∙ rw (c-is, s-is, read.kinds, ← read.header)))
+      (ap {B = Opened} (λ (s : State). record { answer = Ok tt; state = s }) (state_is ∙ rw (c_is, s_is, read.kinds, ← read.header)))
 
 -- a loading that is refused, and one that is not
 module _ (file : List ℕ) (workers : ℕ) (m : List ℕ) where
   pub refuses : {r : Opened} {why : Refusal} → Err why ≡ reading_of (load_of file workers m).0 → r ≡ refused_with why → r ≡ (open_of file workers m).0
   unfolding opened_by
-  refuses {why = why} told r-is = rw (refused_read (load_of file workers m).0 why (sym told)) r-is
+  refuses {why = why} told r_is = rw (refused_read (load_of file workers m).0 why (sym told)) r_is
 
   pub opens : {r : Opened} {h : Header} → Ok h ≡ reading_of (load_of file workers m).0 → r ≡ opened_by (read_of file) workers m → r ≡ (open_of file workers m).0
-  opens {h = h} told r-is = rw (loaded_read (read_of file) workers m h (sym told)) r-is
+  opens {h = h} told r_is = rw (loaded_read (read_of file) workers m h (sym told)) r_is
 
   -- a plan that is loaded was read
   pub loaded_plan : (loaded : Result Header Refusal) → loaded ≡ reading_of (load_of file workers m).0 → IfOk loaded (λ h. reading_of (read_of file) ≡ Ok h)

@@ -35,15 +35,15 @@ module _ (serial : List Bool) (pipes lines : ℕ) where
     -- past the pipes of a line, and past the lines, the counters are 0
     unused : (j : ℕ) → j < 512 → (j / 16 < lines → j % 16 < pipes → ⊥) → get_or whole j 0 ≡ 0
     unused j h n =
-        let j-is : 16 * (j / 16) + j % 16 ≡ j = omega arith in
-        rw j-is at (tabled_unused frame value (j / 16) (j % 16) (omega arith) (omega arith) n)
+        let j_is : 16 * (j / 16) + j % 16 ≡ j = omega arith in
+        rw j_is at (tabled_unused frame value (j / 16) (j % 16) (omega arith) (omega arith) n)
 
     -- a counter is stored, a line is done, all lines are done
     pub counters_store : {c : List ℕ} (line pipe : ℕ) {v : ℕ} → line < lines → pipe < pipes → Filled whole c (16 * line + pipe) → v ≡ value line pipe →
         Filled whole (set c (16 * line + pipe) v) (16 * line + (pipe + 1))
     counters_store line pipe h k f e =
-        let n-is : 16 * line + pipe + 1 ≡ 16 * line + (pipe + 1) = omega arith in
-        rw n-is at (filled_store f (omega (arith, f.size, length_tabled frame value))
+        let n_is : 16 * line + pipe + 1 ≡ 16 * line + (pipe + 1) = omega arith in
+        rw n_is at (filled_store f (omega (arith, f.size, length_tabled frame value))
         (e ∙ sym (tabled_used frame value line pipe (omega arith) (omega arith) h k)))
 
     pub counters_line : {c : List ℕ} (line pipe : ℕ) → line < lines → pipe ≤ pipes → pipes ≤ pipe →
@@ -90,5 +90,5 @@ module _ (bytes : List ℕ) (few : length bytes ≤ 16) where
 
   pub serials_all : {s : List Bool} (p : ℕ) → p ≤ length bytes → length bytes ≤ p → s ≡ serials_to bytes p → s ≡ serial_of (map kind_of bytes)
   serials_all p h k e =
-      let p-is : p ≡ length bytes = omega arith in
-      rw (e, take_all p bytes k, p-is, length-map (map kind_of bytes) serial_kind, length-map bytes kind_of)
+      let p_is : p ≡ length bytes = omega arith in
+      rw (e, take_all p bytes k, p_is, length-map (map kind_of bytes) serial_kind, length-map bytes kind_of)

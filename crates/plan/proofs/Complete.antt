@@ -39,11 +39,11 @@ some_pipe [] h = absurd h
 some_pipe (k ∷ ks) h = omega arith
 
 module _ (p : Plan) where
-  h : Header
+  abbrev h : Header
   h = header_of p
 
-  length_encode : length (encode p) ≡ h.start + h.pipes + 12
-  unfolding encode h
+  pub length_encode : length (encode p) ≡ h.start + h.pipes + 12
+  unfolding encode
   length_encode =
       omega (
         arith,
@@ -54,21 +54,19 @@ module _ (p : Plan) where
       )
 
   -- the parts of the file
-  record_part_lem : record_part h (encode p) ≡ records_bytes p.records
-  unfolding encode h
+  pub record_part_lem : record_part h (encode p) ≡ records_bytes p.records
+  unfolding encode
   record_part_lem = take_at (records_bytes p.records) _ _ refl
 
   rest_part : drop h.start (encode p) ≡ map byte_of p.kinds ++ field_bytes (trailer_fields h)
-  unfolding encode h
+  unfolding encode
   rest_part = drop_at (records_bytes p.records) _ _ refl
 
-  pipe_part_lem : pipe_part h (encode p) ≡ map byte_of p.kinds
-  unfolding h
+  pub pipe_part_lem : pipe_part h (encode p) ≡ map byte_of p.kinds
   pipe_part_lem = rw rest_part (take_at (map byte_of p.kinds) _ _ (length-map p.kinds byte_of))
 
   -- its trailer
   trailer_read : trailer_of (encode p) ≡ h
-  unfolding h
   trailer_read =
       let end : length (encode p) - 12 ≡ h.start + h.pipes = omega (arith, length_encode) in
       let last : drop (length (encode p) - 12) (encode p) ≡ field_bytes (trailer_fields h) =
@@ -81,7 +79,6 @@ module _ (p : Plan) where
   module _ (v : Valid p) where
     -- it is not too long
     size : length (encode p) ≤ 32796
-    unfolding h
     size =
         omega (
           arith,
@@ -95,14 +92,12 @@ module _ (p : Plan) where
 
     -- the trailer's numbers are two-byte fields
     pub trailer_fits : Every (λ n. n < 65536) (trailer_fields (header_of p))
-    unfolding h
     trailer_fits =
         let few = few_records p.tokens 0 p.records v.records v.ascending (omega arith) in
         let f = v.pipes in
         (omega (arith, length_encode, size), (omega arith, (omega (arith, v.lines), (omega (arith, v.tokens), (omega (arith, v.tokens), (omega arith, tt))))))
 
     header_facts : HeaderFacts h (length (encode p))
-    unfolding h
     header_facts = record {
       parts = sym length_encode;
       edition = refl;
@@ -113,9 +108,8 @@ module _ (p : Plan) where
       tokens = v.tokens;
     }
 
-    records_read : (records_check h.tokens h.records (records_bytes p.records) ≡ passed)
+    pub records_read : (records_check h.tokens h.records (records_bytes p.records) ≡ passed)
         × (records_of (suc (length (records_bytes p.records))) (records_bytes p.records) ≡ p.records)
-    unfolding h
     records_read =
         records_complete p.tokens (length p.records) (length (records_bytes p.records)) 0 0 0 p.records
         v.records v.ascending (omega (arith, v.counts)) (omega arith) (omega (arith, length_records p.records))
@@ -131,7 +125,7 @@ module _ (p : Plan) where
 
     -- and spells the plan
     pub plan_is : plan_of (encode p) ≡ p
-    unfolding plan_with h
+    unfolding plan_with
     plan_is =
         let kinds : map kind_of (pipe_part h (encode p)) ≡ p.kinds = ap (map kind_of) pipe_part_lem ∙ (kinds_complete p.kinds).1 in
         let records : records_of (suc (length (record_part h (encode p)))) (record_part h (encode p)) ≡ p.records =

@@ -98,10 +98,10 @@ module _ (file : List ℕ) (workers : ℕ) (m : List ℕ) where
     ]
 
     pub loads : PlanRead file h → {m' : List ℕ} → m' ≡ laid_out (records_in (take h.start file)) m → m' ≡ (load_of file workers m).1
-    loads read m-is = elim (loading (read_of file) workers m) [
+    loads read m_is = elim (loading (read_of file) workers m) [
       | turned_down why is ↦ let q = rw is at told in let z : ◌≡◌ {A = ℕ} 0 1 = cc in absurd (omega arith)
       | laid p o_is manned enough is ↦
           let same : accepted read.plan ≡ accepted p = sym read.reads ∙ o_is in
           let plan_is : read.plan ≡ p = cc in
-          m-is ∙ rw is (ap (λ (rs : List Record). laid_out rs m) (read.records ∙ ap (λ (p : Plan). p.records) plan_is))
+          m_is ∙ rw is (ap (λ (rs : List Record). laid_out rs m) (read.records ∙ ap (λ (p : Plan). p.records) plan_is))
     ]

@@ -1,21 +1,20 @@
 -- What is known of a file that was read: its parts are the bytes of a valid plan.
 use Rattle.std.specs.Prelude.{Ok, Err}
 use mathlib.Core.Path.{◌≡◌, refl, sym, ap, subst, ◌∙◌}
-use mathlib.Core.List.{List, [], ◌∷◌, ◌++◌, map}
+use mathlib.Core.List.{List, [], ◌∷◌, map}
 use Prim.Native.Nat.{ℕ, ◌+◌, ◌≤◌}
 use native.Mathlib.Omega.{arith}
-use lib.ListN.{length, take, drop, length-append, length-map}
-use lib.Seq.{take_at, drop_at}
-use Rattle.fields.specs.Bytes.{Bytes, field_bytes}
-use Rattle.plan.specs.Plan.{Plan, Record, Valid, ValidRecord, records_bytes, header_of, trailer_fields, encode}
-use Rattle.vocabulary.specs.PipeKinds.{byte_of}
+use lib.ListN.{length, take, drop}
+use Rattle.fields.specs.Bytes.{Bytes}
+use Rattle.plan.specs.Plan.{Plan, Record, Valid, ValidRecord, records_bytes, header_of, encode}
 use Rattle.rules.specs.Lists.{Every}
 use Rattle.vocabulary.specs.PipeKinds.{kind_of}
 use Rattle.plan.specs.Records.{records_in}
 use Rattle.plan.specs.Reading.{Outcome, accepted, refused, read_of, reading_of}
 use Rattle.vocabulary.specs.declared.refusal.Refusal.{Refusal}
 use Rattle.plan.specs.declared.trailer.Header.{Header}
-use Rattle.plan.proofs.CompleteParts.{few_records, kinds_complete, records_complete, length_records}
+use Rattle.plan.proofs.CompleteParts.{few_records, kinds_complete}
+use Rattle.plan.proofs.Complete.{length_encode, record_part_lem, pipe_part_lem, records_read}
 use Rattle.plan.proofs.Theorem.{read_exactly, accepted_exactly}
 use Rattle.loading.specs.Layout.{records_fields, Spells}
 use Rattle.loading.proofs.memory_laid.LayoutLaws.{length_fields}
@@ -58,49 +57,24 @@ pub record PlanRead (file : List ℕ) (h : Header) : Type 0 where
   pub few : h.lines ≤ 32
 
 module _ (p : Plan) (v : Valid p) where
-  abbrev h : Header
-  h = header_of p
-
-  abbrev rest : List ℕ
-  rest = map byte_of p.kinds ++ field_bytes (trailer_fields h)
-
-  record_part_lem : take h.start (encode p) ≡ records_bytes p.records
-  unfolding encode
-  record_part_lem = take_at (records_bytes p.records) rest _ refl
-
-  pipe_part_lem : take h.pipes (drop h.start (encode p)) ≡ map byte_of p.kinds
-  unfolding encode
-  pipe_part_lem = rw (drop_at (records_bytes p.records) rest h.start refl) (take_at (map byte_of p.kinds) _ h.pipes (length-map p.kinds byte_of))
-
-  records_again : records_in (records_bytes p.records) ≡ p.records
-  records_again = (records_complete p.tokens (length p.records) (length (records_bytes p.records)) 0 0 0 p.records
-      v.records v.ascending (omega (arith, v.counts)) (omega arith) (omega (arith, length_records p.records))).1
-
-  plan_inside : h.start + h.pipes ≤ length (encode p)
-  unfolding encode
-  plan_inside = omega (
-    arith,
-    length-append (records_bytes p.records) rest,
-    length-append (map byte_of p.kinds) (field_bytes (trailer_fields h)),
-    length-map p.kinds byte_of,
-  )
-
   plan_spells : Spells (records_bytes p.records) p.records
   plan_spells = record { bytes = refl; each = more_tokens p.tokens 4096 v.tokens p.records v.records; ascending = v.ascending; fits = fits v }
 
-  plan_read_encoded : read_of (encode p) ≡ accepted p → PlanRead (encode p) h
-  plan_read_encoded e = record {
-    plan = p;
-    valid = v;
-    reads = e;
-    header = refl;
-    records = rw record_part_lem records_again;
-    spells = rw (record_part_lem, records_again) plan_spells;
-    kinds = rw pipe_part_lem (kinds_complete p.kinds).1;
-    inside = plan_inside;
-    narrow = v.pipes;
-    few = v.lines;
-  }
+  plan_read_encoded : read_of (encode p) ≡ accepted p → PlanRead (encode p) (header_of p)
+  plan_read_encoded e =
+      let again = (records_read p v).1 in
+      record {
+        plan = p;
+        valid = v;
+        reads = e;
+        header = refl;
+        records = rw record_part_lem again;
+        spells = rw (record_part_lem, again) plan_spells;
+        kinds = rw pipe_part_lem (kinds_complete p.kinds).1;
+        inside = omega (arith, length_encode p);
+        narrow = v.pipes;
+        few = v.lines;
+      }
 
 -- a file that was accepted with this header is that of a valid plan
 pub plan_read : (file : List ℕ) → Bytes file → (header : Header) → reading_of (read_of file) ≡ Ok header → PlanRead file header

@@ -33,8 +33,8 @@ stored l z rest e =
 
 copied : (k : ℕ) (l rest : List ℕ) → length l ≤ k → sets (zeros k ++ rest) 0 l ≡ l ++ (zeros (k - length l) ++ rest)
 copied k l rest h =
-    let k-is : length l + (k - length l) ≡ k = omega arith in
-    ap (λ i. sets (zeros i ++ rest) 0 l) (sym k-is)
+    let k_is : length l + (k - length l) ≡ k = omega arith in
+    ap (λ i. sets (zeros i ++ rest) 0 l) (sym k_is)
     ∙ rw (← zeros_append (length l) (k - length l), append_assoc (zeros (length l)) (zeros (k - length l)) rest)
     (stored l (zeros (length l)) (zeros (k - length l) ++ rest) (length_zeros (length l)))
 

@@ -6,18 +6,18 @@ use Rattle.std.proofs.lemmas.List.{take_rest}
 use Rattle.plan.proofs.trailer.read_trailer.Goals as goal
 
 -- a field that was read from the part is the trailer's
-read-in : (file : List ℕ) (i : ℕ) {r : ℕ} → 12 ≤ length file → i ≤ 10 →
+read_in : (file : List ℕ) (i : ℕ) {r : ℕ} → 12 ≤ length file → i ≤ 10 →
     r ≡ field_in (take (length file - (length file - 12)) (drop (length file - 12) file)) i → r ≡ field_at (drop (length file - 12) file) i
-read-in file i h l e = field_inside _ i (simp length-drop (omega arith)) (rw take_rest at e)
+read_in file i h l e = field_inside _ i (simp length-drop (omega arith)) (rw take_rest at e)
 
 pub returns : goal.returns
 returns c =
     let file = c.args.file.now in
     rw (
-      read-in file 10 c.requires (omega arith) c.field_or_zero-6.ensures,
-      read-in file 8 c.requires (omega arith) c.field_or_zero-5.ensures,
-      read-in file 6 c.requires (omega arith) c.field_or_zero-4.ensures,
-      read-in file 4 c.requires (omega arith) c.field_or_zero-3.ensures,
-      read-in file 2 c.requires (omega arith) c.field_or_zero-2.ensures,
-      read-in file 0 c.requires (omega arith) c.field_or_zero.ensures,
+      read_in file 10 c.requires (omega arith) c.field_or_zero-6.ensures,
+      read_in file 8 c.requires (omega arith) c.field_or_zero-5.ensures,
+      read_in file 6 c.requires (omega arith) c.field_or_zero-4.ensures,
+      read_in file 4 c.requires (omega arith) c.field_or_zero-3.ensures,
+      read_in file 2 c.requires (omega arith) c.field_or_zero-2.ensures,
+      read_in file 0 c.requires (omega arith) c.field_or_zero.ensures,
     )
