@@ -20,7 +20,7 @@ ghost use Rattle.engine.specs.Turns.{turned, Fits, Tells};
 pub use offering::{offer, take_offered, take_record};
 use ranges::Survey;
 use state::{COUNTERS_OF_LINE, Figures, State};
-use turn::{Change, Move};
+use turn::{Change, Choice, Move};
 use vocabulary::{Event, Line, Refusal, Slot, Slots, Worker};
 
 // What a choice returns: its answer, and the state after it.
@@ -45,14 +45,13 @@ fn look(
     slots: Slots,
     counters: &[u8; 512],
     mem: &[u16],
-    worker: Worker,
-    line: Line,
+    choice: Choice,
 ) -> Option<Survey>
-    ensures { result ≡ survey_of f counters.now slots mem.now worker.0 line.0 }
+    ensures { result ≡ survey_of f counters.now slots mem.now choice.worker.0 choice.line.0 }
 {
     let rows = ranges::rows_sound(counters, &f.serial, f.pipes, f.lines);
     let rest = ranges::rest_sound(rows, f, mem);
-    ranges::look_over(rest, f, slots, worker.0, line.0)
+    ranges::look_over(rest, f, slots, choice.worker.0, choice.line.0)
 }
 
 // The checks of a choice, up to its start or finish: what the line does then. (It becomes part of a choice and of an offer, which saves
@@ -63,12 +62,12 @@ fn move_of(
     slots: Slots,
     counters: &[u8; 512],
     mem: &[u16],
-    worker: Worker,
-    line: Line,
+    choice: Choice,
 ) -> Result<Move, Refusal>
-    ensures { Tells f counters.now slots worker.0 line.0 mem.now result }
+    ensures { Tells f counters.now slots choice.worker.0 choice.line.0 mem.now result }
 {
-    let Some(seen) = look(f, slots, counters, mem, worker, line) else {
+    let Choice { worker, line } = choice;
+    let Some(seen) = look(f, slots, counters, mem, choice) else {
         return Err(Refusal::Spoiled);
     };
     if f.lines <= line.0 {
@@ -103,23 +102,22 @@ fn turn_of(
     slots: Slots,
     counters: &[u8; 512],
     mem: &mut [u16],
-    worker: Worker,
-    line: Line,
+    choice: Choice,
     leave: Result<(), Refusal>,
 ) -> Result<Change, Refusal>
-    ensures fits { Fits line.0 result }
-    ensures chooses { chosen_of (turned (whole f counters.now slots) line.0 result) mem.new ≡
+    ensures fits { Fits choice.line.0 result }
+    ensures chooses { chosen_of (turned (whole f counters.now slots) choice.line.0 result) mem.new ≡
         only_if (machine_of (whole f counters.now slots) mem.old) (is_ok leave) (other_of leave)
-        (chosen_by memory_source (machine_of (whole f counters.now slots) mem.old) worker.0 line.0) }
+        (chosen_by memory_source (machine_of (whole f counters.now slots) mem.old) choice.worker.0 choice.line.0) }
 {
-    let next = move_of(f, slots, counters, mem, worker, line)?;
+    let next = move_of(f, slots, counters, mem, choice)?;
     if let Err(other) = leave {
-        offering::would(f, next, counters, mem, worker, line)?;
+        offering::would(f, next, counters, mem, choice)?;
         return Err(other);
     }
     match next {
-        Move::Start(slot) => starting::start(f, slot, mem, worker, line),
-        Move::Finish(slot) => finishing::finish(f, slot, counters, mem, line),
+        Move::Start(slot) => starting::start(f, slot, mem, choice),
+        Move::Finish(slot) => finishing::finish(f, slot, counters, mem, choice.line),
     }
 }
 
@@ -137,8 +135,9 @@ pub fn choose_if(
 {
     let f = s.figures();
     let slots = s.slots();
+    let choice = Choice { worker, line };
     let mut after = s;
-    match turn_of(f, slots, &after.counters, mem, worker, line, leave) {
+    match turn_of(f, slots, &after.counters, mem, choice, leave) {
         Err(why) => Chosen {
             answer: Err(why),
             state: after,

@@ -11,7 +11,7 @@ ghost use Rattle.engine.specs.Machines.{chosen_of};
 ghost use Rattle.engine.specs.Turns.{Tells};
 ghost use Rattle.engine.specs.Taking.{agrees_with, leave_if};
 
-use crate::turn::Move;
+use crate::turn::{Choice, Move};
 use crate::{Chosen, choose_if, finishing, move_of, starting};
 use state::{Figures, SLOTS, State, slot_at};
 use vocabulary::{Event, EventRecord, Line, Refusal, Slot, Slots, Worker};
@@ -22,16 +22,15 @@ pub(crate) fn would(
     next: Move,
     counters: &[u8; 512],
     mem: &[u16],
-    worker: Worker,
-    line: Line,
+    choice: Choice,
 ) -> Result<Event, Refusal>
-    requires { (slots : Slots) × Tells f counters.now slots worker.0 line.0 mem.now (Ok next) }
-    ensures { (slots : Slots) → Tells f counters.now slots worker.0 line.0 mem.now (Ok next) →
-        answer_of result ≡ offered_by memory_source (machine_of (whole f counters.now slots) mem.now) worker.0 line.0 }
+    requires { (slots : Slots) × Tells f counters.now slots choice.worker.0 choice.line.0 mem.now (Ok next) }
+    ensures { (slots : Slots) → Tells f counters.now slots choice.worker.0 choice.line.0 mem.now (Ok next) →
+        answer_of result ≡ offered_by memory_source (machine_of (whole f counters.now slots) mem.now) choice.worker.0 choice.line.0 }
 {
     match next {
-        Move::Start(slot) => starting::would_start(f, slot, mem, worker, line),
-        Move::Finish(slot) => finishing::would_finish(f, slot, counters, mem, line),
+        Move::Start(slot) => starting::would_start(f, slot, mem, choice),
+        Move::Finish(slot) => finishing::would_finish(f, slot, counters, mem, choice.line),
     }
 }
 
@@ -41,31 +40,31 @@ fn answer_of(
     slots: Slots,
     counters: &[u8; 512],
     mem: &[u16],
-    worker: Worker,
-    line: Line,
+    choice: Choice,
 ) -> Result<Event, Refusal>
-    ensures { answer_of result ≡ offered_by memory_source (machine_of (whole f counters.now slots) mem.now) worker.0 line.0 }
+    ensures { answer_of result ≡ offered_by memory_source (machine_of (whole f counters.now slots) mem.now) choice.worker.0 choice.line.0 }
 {
-    let next = move_of(f, slots, counters, mem, worker, line)?;
-    would(f, next, counters, mem, worker, line)
+    let next = move_of(f, slots, counters, mem, choice)?;
+    would(f, next, counters, mem, choice)
 }
 
 // What a choice would answer: its event, or why it is refused. Nothing is written.
 pub fn offer(s: State, mem: &[u16], worker: Worker, line: Line) -> Result<Event, Refusal>
     ensures { answer_of result ≡ offered_by memory_source (machine_of s mem.now) worker.0 line.0 }
 {
-    answer_of(s.figures(), s.slots(), &s.counters, mem, worker, line)
+    let choice = Choice { worker, line };
+    answer_of(s.figures(), s.slots(), &s.counters, mem, choice)
 }
 
 // What a line's slot and the tables say that it does next. Nothing else is looked at: a choice that is accepted gives just this.
-fn shown(f: Figures, slot: Slot, mem: &[u16], worker: Worker, line: Line) -> Result<Event, Refusal>
-    ensures { (counters : List ℕ) (slots : Slots) → slot_at slots line.0 ≡ slot →
-        answer_of result ≡ shown_by memory_source (machine_of (whole f counters slots) mem.now) worker.0 line.0 }
+fn shown(f: Figures, slot: Slot, mem: &[u16], choice: Choice) -> Result<Event, Refusal>
+    ensures { (counters : List ℕ) (slots : Slots) → slot_at slots choice.line.0 ≡ slot →
+        answer_of result ≡ shown_by memory_source (machine_of (whole f counters slots) mem.now) choice.worker.0 choice.line.0 }
 {
     if slot.running {
-        return Ok(finishing::finished(slot, line));
+        return Ok(finishing::finished(slot, choice.line));
     }
-    starting::would_start(f, slot, mem, worker, line)
+    starting::would_start(f, slot, mem, choice)
 }
 
 // Whether an answer is the event of this record.
@@ -98,16 +97,18 @@ fn leave_for(
 pub fn take_record(s: State, mem: &mut [u16], wanted: EventRecord, other: Refusal) -> Chosen
     ensures { chosen_of result mem.new ≡ take_record memory_source (machine_of s mem.old) wanted (number_of other) }
 {
-    let worker = Worker(wanted.worker);
-    let line = Line(wanted.line);
+    let choice = Choice {
+        worker: Worker(wanted.worker),
+        line: Line(wanted.line),
+    };
     let l = usize::from(wanted.line);
     let mut leave = Err(other);
     if l < SLOTS {
         let slots = s.slots();
-        let told = shown(s.figures(), slot_at(&slots, l), mem, worker, line);
+        let told = shown(s.figures(), slot_at(&slots, l), mem, choice);
         leave = leave_for(told, wanted, other);
     }
-    choose_if(s, mem, worker, line, leave)
+    choose_if(s, mem, choice.worker, choice.line, leave)
 }
 
 // Takes an event that was offered, if it is still what its line would do.

@@ -6,10 +6,10 @@ ghost use Rattle.state.specs.Machines.{Ready};
 ghost use Rattle.engine.specs.Turns.{Fits, Follows, AnswersAs};
 ghost use Rattle.engine.specs.Moves.{overfull_of, refilled, started_change, taken_change, stopped_change, StartsFirst, AnswersFirst};
 
-use crate::turn::{Cell, Change, step_of};
+use crate::turn::{Cell, Change, Choice, step_of};
 use state::{COUNTERS_OF_LINE, Figures};
 use tables::{Tables, Taken};
-use vocabulary::{Event, Line, Pipe, PipeKind, Place, Refusal, Slot, Step, Stop, Token, Worker};
+use vocabulary::{Event, Pipe, PipeKind, Place, Refusal, Slot, Step, Stop, Token, Worker};
 
 // The counter of a line and pipe, full again.
 fn refill(f: Figures, l: usize, p: usize) -> Cell
@@ -23,10 +23,11 @@ fn refill(f: Figures, l: usize, p: usize) -> Cell
 }
 
 // The worker starts the pipe of this slot on the line, with its token and place.
-fn start_at(f: Figures, worker: Worker, line: Line, slot: Slot) -> Change
-    requires { (line.0 < 32) × (slot.pipe.0 < 16) }
-    ensures { result ≡ started_change f worker line slot }
+fn start_at(f: Figures, choice: Choice, slot: Slot) -> Change
+    requires { (choice.line.0 < 32) × (slot.pipe.0 < 16) }
+    ensures { result ≡ started_change f choice.worker choice.line slot }
 {
+    let Choice { worker, line } = choice;
     let full = refill(f, usize::from(line.0), usize::from(slot.pipe.0));
     Change {
         event: Event::Started(step_of(line, slot, worker)),
@@ -44,9 +45,9 @@ fn start_at(f: Figures, worker: Worker, line: Line, slot: Slot) -> Change
 }
 
 // A start at pipe 0 with a token that was taken, and the tables after it.
-fn start_with(f: Figures, worker: Worker, line: Line, token: u16, tables: Tables) -> Change
-    requires { (line.0 < 32) × (f.placed < f.tables.tokens) }
-    ensures { result ≡ taken_change f worker line token tables }
+fn start_with(f: Figures, choice: Choice, token: u16, tables: Tables) -> Change
+    requires { (choice.line.0 < 32) × (f.placed < f.tables.tokens) }
+    ensures { result ≡ taken_change f choice.worker choice.line token tables }
 {
     let place = Place(f.placed);
     let slot = Slot {
@@ -61,14 +62,15 @@ fn start_with(f: Figures, worker: Worker, line: Line, token: u16, tables: Tables
         tables,
         ..f
     };
-    start_at(next, worker, line, slot)
+    start_at(next, choice, slot)
 }
 
 // A stop: no token is left.
-fn stop_line(f: Figures, slot: Slot, worker: Worker, line: Line, tables: Tables) -> Change
-    requires { line.0 < 32 }
-    ensures { result ≡ stopped_change f worker line slot tables }
+fn stop_line(f: Figures, slot: Slot, choice: Choice, tables: Tables) -> Change
+    requires { choice.line.0 < 32 }
+    ensures { result ≡ stopped_change f choice.worker choice.line slot tables }
 {
+    let Choice { worker, line } = choice;
     let full = refill(f, usize::from(line.0), 0);
     Change {
         event: Event::Stopped(Stop { line, worker }),
@@ -95,24 +97,18 @@ fn overfull(f: Figures, mem: &[u16]) -> bool
 }
 
 // A start at pipe 0: a token is taken, or there is none.
-fn start_first(
-    f: Figures,
-    slot: Slot,
-    mem: &mut [u16],
-    worker: Worker,
-    line: Line,
-) -> Result<Change, Refusal>
-    requires { Ready f slot line.0 }
-    ensures fits { Fits line.0 result }
-    ensures starts { (counters : List ℕ) → StartsFirst f counters worker.0 line.0 slot result mem.old mem.new }
+fn start_first(f: Figures, slot: Slot, mem: &mut [u16], choice: Choice) -> Result<Change, Refusal>
+    requires { Ready f slot choice.line.0 }
+    ensures fits { Fits choice.line.0 result }
+    ensures starts { (counters : List ℕ) → StartsFirst f counters choice.worker.0 choice.line.0 slot result mem.old mem.new }
 {
     if overfull(f, mem) {
         return Err(Refusal::Spoiled);
     }
     let Taken { token, tables } = taking::take(mem, f.tables)?;
     match token {
-        Some(token) => Ok(start_with(f, worker, line, token, tables)),
-        None => Ok(stop_line(f, slot, worker, line, tables)),
+        Some(token) => Ok(start_with(f, choice, token, tables)),
+        None => Ok(stop_line(f, slot, choice, tables)),
     }
 }
 
@@ -121,23 +117,23 @@ pub(crate) fn start(
     f: Figures,
     slot: Slot,
     mem: &mut [u16],
-    worker: Worker,
-    line: Line,
+    choice: Choice,
 ) -> Result<Change, Refusal>
-    requires { Ready f slot line.0 }
-    ensures fits { Fits line.0 result }
-    ensures follows { (counters : List ℕ) → Follows (λ m l. started_by memory_source m worker.0 l) f counters line.0 slot result mem.old mem.new }
+    requires { Ready f slot choice.line.0 }
+    ensures fits { Fits choice.line.0 result }
+    ensures follows { (counters : List ℕ) → Follows (λ m l. started_by memory_source m choice.worker.0 l) f counters choice.line.0 slot result mem.old mem.new }
 {
     if slot.pipe.0 == 0 {
-        return start_first(f, slot, mem, worker, line);
+        return start_first(f, slot, mem, choice);
     }
-    Ok(start_at(f, worker, line, slot))
+    Ok(start_at(f, choice, slot))
 }
 
 // What a start at pipe 0 would answer.
-fn would_start_first(f: Figures, mem: &[u16], worker: Worker, line: Line) -> Result<Event, Refusal>
-    ensures { AnswersFirst f worker.0 line.0 result mem.now }
+fn would_start_first(f: Figures, mem: &[u16], choice: Choice) -> Result<Event, Refusal>
+    ensures { AnswersFirst f choice.worker.0 choice.line.0 result mem.now }
 {
+    let Choice { worker, line } = choice;
     match taking::would_take(mem, f.tables)? {
         None => Ok(Event::Stopped(Stop { line, worker })),
         Some(token) => {
@@ -160,13 +156,12 @@ pub(crate) fn would_start(
     f: Figures,
     slot: Slot,
     mem: &[u16],
-    worker: Worker,
-    line: Line,
+    choice: Choice,
 ) -> Result<Event, Refusal>
-    ensures { (counters : List ℕ) → AnswersAs (λ m l. started_by memory_source m worker.0 l) f counters line.0 slot result mem.now }
+    ensures { (counters : List ℕ) → AnswersAs (λ m l. started_by memory_source m choice.worker.0 l) f counters choice.line.0 slot result mem.now }
 {
     if slot.pipe.0 == 0 {
-        return would_start_first(f, mem, worker, line);
+        return would_start_first(f, mem, choice);
     }
-    Ok(Event::Started(step_of(line, slot, worker)))
+    Ok(Event::Started(step_of(choice.line, slot, choice.worker)))
 }

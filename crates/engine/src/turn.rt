@@ -5,6 +5,13 @@ ghost use Rattle.engine.specs.Moves.{step_of};
 use tables::Tables;
 use vocabulary::{Event, Line, Slot, Step, Worker};
 
+// What a choice names: a worker and a line.
+#[derive(Clone, Copy)]
+pub struct Choice {
+    pub worker: Worker,
+    pub line: Line,
+}
+
 // A counter's place among all counters, and its value.
 #[derive(Clone, Copy)]
 pub struct Cell {

@@ -2,8 +2,7 @@
 use mathlib.Core.Path.{◌≡◌}
 use mathlib.Core.Bool.{Bool}
 use mathlib.Core.List.{List}
-use Prim.Native.Nat.{ℕ, ◌<◌}
-use Rattle.std.specs.Prelude.{Ok}
+use Prim.Native.Nat.{ℕ}
 use Rattle.vocabulary.specs.declared.Slots.{Slots}
 use Rattle.vocabulary.specs.declared.refusal.Refusal.{Refusal}
 use Rattle.vocabulary.specs.Refusals.{number_of}
@@ -14,11 +13,10 @@ use Rattle.tables.specs.declared.Tables.{Tables}
 use Rattle.tables.specs.State as tables
 use Rattle.state.specs.declared.State.{State}
 use Rattle.engine.specs.declared.Chosen.{Chosen}
-use Rattle.engine.specs.declared.turn.Change.{Change}
 use Rattle.state.specs.declared.Figures.{Figures}
 use Rattle.state.specs.Machines.{slots_of, figures_of, machine_of, whole}
 use Rattle.engine.specs.Machines.{refused_by, chosen_of}
-use Rattle.engine.specs.Turns.{Turn, turned, Fits}
+use Rattle.engine.specs.Turns.{Turn, turned}
 use Rattle.rules.specs.Answers.{answer_of}
 
 -- the same state but for some of its parts

@@ -32,7 +32,6 @@ use Rattle.tables.specs.Taking.{taken_of, taken_memory, offered_of}
 use Rattle.tables.specs.Calls.{safe_take, memory_source}
 use Rattle.state.specs.declared.State.{State}
 use Rattle.state.specs.declared.Figures.{Figures}
-use Rattle.engine.specs.declared.turn.Cell.{Cell}
 use Rattle.engine.specs.declared.turn.Change.{Change}
 use Rattle.state.specs.Machines.{machine_of}
 use Rattle.engine.specs.Machines.{chosen_of}
