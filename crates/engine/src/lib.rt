@@ -39,7 +39,8 @@ fn is_early(f: Figures, slot: Slot, counters: &[u8; 512], l: u16) -> bool
     !slot.running && counters[COUNTERS_OF_LINE * usize::from(l) + usize::from(slot.pipe.0)] != 0
 }
 
-// The look over the state.
+// The look over the state. (Figures, slots and counters stay apart, here and in the calls below: few take all three, and a struct of them would
+// hold the counters by a reference, with a lifetime in each signature.)
 fn look(
     f: Figures,
     slots: Slots,
@@ -112,8 +113,7 @@ fn turn_of(
 {
     let next = move_of(f, slots, counters, mem, choice)?;
     if let Err(other) = leave {
-        offering::would(f, next, counters, mem, choice)?;
-        return Err(other);
+        return offering::would(f, next, counters, mem, choice).and(Err(other));
     }
     match next {
         Move::Start(slot) => starting::start(f, slot, mem, choice),

@@ -13,7 +13,7 @@ ghost use Rattle.engine.specs.Taking.{agrees_with, leave_if};
 
 use crate::turn::{Choice, Move};
 use crate::{Chosen, choose_if, finishing, move_of, starting};
-use state::{Figures, SLOTS, State, slot_at};
+use state::{Figures, SLOTS, State};
 use vocabulary::{Event, EventRecord, Line, Refusal, Slot, Slots, Worker};
 
 // What a move would answer.
@@ -105,7 +105,14 @@ pub fn take_record(s: State, mem: &mut [u16], wanted: EventRecord, other: Refusa
     let mut leave = Err(other);
     if l < SLOTS {
         let slots = s.slots();
-        let told = shown(s.figures(), slot_at(&slots, l), mem, choice);
+        let slot = Slot {
+            pipe: slots.at[l],
+            running: slots.running[l],
+            token: slots.token[l],
+            place: slots.place[l],
+            worker: slots.worker[l],
+        };
+        let told = shown(s.figures(), slot, mem, choice);
         leave = leave_for(told, wanted, other);
     }
     choose_if(s, mem, choice.worker, choice.line, leave)

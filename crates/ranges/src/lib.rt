@@ -11,7 +11,7 @@ ghost use Rattle.std.specs.Prelude.{◌≡◌, List, ℕ, ◌<◌};
 ghost use Rattle.ranges.specs.RangeParts.{figures_sound};
 ghost use Rattle.ranges.specs.Surveys.{rows_sound, rest_sound, near as near_of, survey_of};
 
-use state::{Figures, MOST_LINES, MOST_PIPES, MOST_TOKENS, MOST_WORKERS, SLOTS, slot_at};
+use state::{Figures, MOST_LINES, MOST_PIPES, MOST_TOKENS, MOST_WORKERS, SLOTS};
 use vocabulary::{Slot, Slots};
 
 // What a look over a sound state tells: whether the chosen worker runs a line, and what the chosen line does.
@@ -85,6 +85,6 @@ pub fn look_over(rest: bool, f: Figures, slots: Slots, worker: u16, line: u16) -
     }
     Some(Survey {
         busy: found.busy,
-        slot: slot_at(&slots, near(line)),
+        slot: slots::slot_at(&slots, near(line)),
     })
 }

@@ -1,13 +1,14 @@
 // Whether the lines' slots are within their ranges, and whether a worker runs a line. It is asked at every choice: so one walk finds
 // both, with no branch and no way out, a row for each kind of number.
-ghost use Rattle.std.specs.Prelude.{◌≡◌, true, false, [], ◌∷◌, ◌≤◌, eqb, ltb};
+ghost use Rattle.std.specs.Prelude.{◌≡◌, true, false, [], ◌∷◌, ◌<◌, ◌≤◌, eqb, ltb};
 ghost use Rattle.rules.specs.Lists.{if, must, all};
+ghost use Rattle.rules.specs.RunState.{slot_at};
 ghost use Rattle.rules.specs.Choices.{run_by};
 ghost use Rattle.rules.specs.Ranges.{is_idle, is_loaded, worker_sound};
 ghost use Rattle.ranges.specs.RangeParts.{found_of};
 
 use crate::joint;
-use state::{SLOTS, slot_at};
+use state::SLOTS;
 use vocabulary::{Slot, Slots};
 
 // What a walk over the slots finds: whether all are within their ranges, and whether the worker runs a line. (Two tests that are found
@@ -16,6 +17,21 @@ use vocabulary::{Slot, Slots};
 pub struct Found {
     pub sound: bool,
     pub busy: bool,
+}
+
+// What a line does: its numbers, read off the rows.
+#[tactic(auto, unfolding(rules::specs::RunState::slot_at))]
+pub(crate) fn slot_at(slots: &Slots, l: usize) -> Slot
+    requires { l < 32 }
+    ensures { result ≡ slot_at slots.now l }
+{
+    Slot {
+        pipe: slots.at[l],
+        running: slots.running[l],
+        token: slots.token[l],
+        place: slots.place[l],
+        worker: slots.worker[l],
+    }
 }
 
 // What a line's token and place must be below: N, or for a line that the plan does not have nothing.

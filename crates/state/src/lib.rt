@@ -4,8 +4,7 @@
 mod ending;
 mod limits;
 
-ghost use Rattle.std.specs.Prelude.{◌≡◌, ◌<◌, true, List, ℕ};
-ghost use Rattle.rules.specs.RunState.{slot_at};
+ghost use Rattle.std.specs.Prelude.{◌≡◌, true, List, ℕ};
 ghost use Rattle.rules.specs.Ranges.{sound as sound_by};
 ghost use Rattle.rules.specs.Choices.{ended as ended_by};
 ghost use Rattle.tables.specs.Calls.{memory_source};
@@ -17,7 +16,7 @@ pub use limits::{
     COUNTERS, COUNTERS_OF_LINE, FLAGS, MOST_LINES, MOST_PIPES, MOST_TOKENS, MOST_WORKERS, SLOTS,
 };
 use tables::Tables;
-use vocabulary::{Pipe, Place, Slot, Slots, Token, Worker};
+use vocabulary::{Pipe, Place, Slots, Token, Worker};
 
 // The state of a run: P, L, W, how many tokens have a place, whether the run is marked stopped, the numbers of the token tables,
 // N among them, which pipes are serial, the join counters (16 to a line), and what each line does: its pipe, whether it runs, its
@@ -84,21 +83,6 @@ impl State {
             tables: self.tables,
             serial,
         }
-    }
-}
-
-// What a line does: its numbers, read off the rows.
-#[tactic(auto, unfolding(rules::specs::RunState::slot_at))]
-pub fn slot_at(slots: &Slots, l: usize) -> Slot
-    requires { l < 32 }
-    ensures { result ≡ slot_at slots.now l }
-{
-    Slot {
-        pipe: slots.at[l],
-        running: slots.running[l],
-        token: slots.token[l],
-        place: slots.place[l],
-        worker: slots.worker[l],
     }
 }
 

@@ -4,6 +4,7 @@ use mathlib.Core.Bool.{Bool, true, false}
 use mathlib.Core.List.{List}
 use Prim.Native.Nat.{ℕ}
 use Rattle.std.specs.Prelude.{Result, Ok, Err, is_ok}
+use Rattle.std.specs.Result.{result_and}
 use Rattle.vocabulary.specs.declared.Line.{Line}
 use Rattle.vocabulary.specs.declared.Worker.{Worker}
 use Rattle.vocabulary.specs.declared.Slot.{Slot}
@@ -27,7 +28,7 @@ use Rattle.state.specs.declared.State.{State}
 use Rattle.state.specs.declared.Figures.{Figures}
 use Rattle.state.specs.Machines.{machine_of, whole}
 use Rattle.engine.specs.Moves.{finished_event}
-use Rattle.engine.specs.Turns.{Answer, turned}
+use Rattle.engine.specs.Turns.{Turn, Answer, turned, Fits}
 use Rattle.engine.specs.Machines.{chosen_of}
 use Rattle.engine.proofs.moves.Parts.{refused}
 use Rattle.engine.specs.Taking.{other_of, agrees_with, leave_if}
@@ -51,7 +52,7 @@ module _ (s : State) (mem : List ℕ) (w l : ℕ) {leave : Result (Unit {0}) Ref
   Refuses why = chosen_of (turned s l (Err why)) mem ≡ only_if m (is_ok leave) (other_of leave) chosen
 
   module _ {told : Answer} (told_is : answer_of told ≡ chosen.answer) where
-    pub own_refusal : {why : Refusal} → told ≡ Err why → Refuses why
+    own_refusal : {why : Refusal} → told ≡ Err why → Refuses why
     unfolding answer_of
     own_refusal {why} e =
         let answer : rules.Refused (number_of why) ≡ chosen.answer = rw e at told_is in
@@ -59,10 +60,19 @@ module _ (s : State) (mem : List ℕ) (w l : ℕ) {leave : Result (Unit {0}) Ref
         let chosen_is : refuse m (number_of why) ≡ chosen = λ i. record { answer = answer i; machine = sym unchanged i } in
         refused s why mem refl ∙ chosen_is ∙ sym (only_refused m (is_ok leave) (other_of leave) chosen (ap is_refused (sym answer)))
 
-    pub other_refusal : {event : Event} → told ≡ Ok event → Refuses other
+    other_refusal : {event : Event} → told ≡ Ok event → Refuses other
     other_refusal {event} e =
         let accepted : is_refused chosen.answer ≡ false = ap is_refused (sym told_is) ∙ ap (λ a. is_refused (answer_of a)) e ∙ no_refusal event in
         refused s other mem refl ∙ sym (ap (λ v. only_if m (is_ok v) (other_of v) chosen) none ∙ only_other m false (number_of other) chosen accepted refl)
+
+  pub refuses : (told : Answer) → answer_of told ≡ chosen.answer → {r : Turn} → r ≡ result_and told (Err other) →
+      chosen_of (turned s l r) mem ≡ only_if m (is_ok leave) (other_of leave) chosen
+  refuses (Ok event) told_is r_is = ap (λ v. chosen_of (turned s l v) mem) r_is ∙ other_refusal told_is refl
+  refuses (Err why) told_is r_is = ap (λ v. chosen_of (turned s l v) mem) r_is ∙ own_refusal told_is refl
+
+pub refuses_fits : (l : ℕ) (told : Answer) (other : Refusal) {r : Turn} → r ≡ result_and told (Err other) → Fits l r
+refuses_fits l (Ok event) other r_is = rw r_is tt
+refuses_fits l (Err why) other r_is = rw r_is tt
 
 -- an event beside a record
 agrees_is : (a : Answer) (r : EventRecord) → is_refused (answer_of a) ≡ false → agrees_with a r ≡ same_record (record_of (answer_of a)) r

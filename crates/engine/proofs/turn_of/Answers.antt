@@ -3,7 +3,7 @@ use Rattle.std.proofs.Common.{sym, ap, ◌∙◌, is_ok}
 use Rattle.std.proofs.lemmas.Result.{err_from_is_err_and}
 use Rattle.rules.proofs.choices.Offered.{only_same}
 use Rattle.engine.proofs.moves.ChooseLaws as laws
-use Rattle.engine.proofs.moves.TakeLaws.{own_refusal, other_refusal}
+use Rattle.engine.proofs.moves.TakeLaws.{refuses, refuses_fits}
 use Rattle.engine.proofs.turn_of.Goals as goal
 
 pub would-requires : goal.would-requires
@@ -22,15 +22,13 @@ returns-in_err-next-clause-chooses c =
     let (why, is, same) = err_from_is_err_and c.from_residual.result c.from_residual.ensures.1 in
     rw (is, same) (laws.told_refused _ _ _ _ _ _ c.move_of.ensures c.in_err-next.was _ _)
 
-pub returns-in_err-would-clause-chooses : goal.returns-in_err-would-clause-chooses
-returns-in_err-would-clause-chooses c =
-    let (why, is, same) = err_from_is_err_and c.from_residual-in_err-would.result c.from_residual-in_err-would.ensures.1 in
-    rw (is, same)
-    (own_refusal _ _ _ _ c.in-Err.is (c.would.ensures _ (laws.told_next _ _ _ _ _ _ c.move_of.ensures c.in_ok-next.was)) c.in_err-would.was)
+pub returns-in-Err-clause-fits : goal.returns-in-Err-clause-fits
+returns-in-Err-clause-fits c = refuses_fits _ c.would.result _ c.and.ensures
 
 pub returns-in-Err-clause-chooses : goal.returns-in-Err-clause-chooses
 returns-in-Err-clause-chooses c =
-    other_refusal _ _ _ _ c.in-Err.is (c.would.ensures _ (laws.told_next _ _ _ _ _ _ c.move_of.ensures c.in_ok-next.was)) c.in_ok-would.was
+    refuses _ _ _ _ c.in-Err.is c.would.result
+    (c.would.ensures _ (laws.told_next _ _ _ _ _ _ c.move_of.ensures c.in_ok-next.was)) c.and.ensures
 
 pub returns-in-Start-clause-chooses : goal.returns-in-Start-clause-chooses
 returns-in-Start-clause-chooses c =

@@ -10,13 +10,13 @@ unfolding is_still
 returns-then-lines-gt-SLOTS c = every_fails _ _ 32 (omega arith) (search tests depth 12)
 
 pub loop-l-init : goal.loop-l-init
-loop-l-init c = every_none _
+loop-l-init c = (omega arith, every_none _)
 
 pub returns-then-not-is_still : goal.returns-then-not-is_still
 returns-then-not-is_still c = every_fails _ _ c.loop-l.l (omega arith) (sym c.if-not-is_still.ensures)
 
 pub loop-l-preserved : goal.loop-l-preserved
-loop-l-preserved c = every_more _ _ c.loop-l.invariant (sym c.if-not-is_still.ensures)
+loop-l-preserved c = (omega arith, every_more _ _ c.loop-l.invariant.1 (sym c.if-not-is_still.ensures))
 
 pub returns : goal.returns
-returns c = every_done _ _ c.loop-l.l (omega arith) (omega arith) c.loop-l.invariant
+returns c = every_done _ _ c.loop-l.l (omega arith) (omega arith) c.loop-l.invariant.1

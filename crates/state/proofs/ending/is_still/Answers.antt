@@ -13,7 +13,7 @@ returns-then-not-slots-l c = elim c.if-pipe-lt-COUNTERS_OF_LINE.branch [
   | then-pipe-lt-COUNTERS_OF_LINE w ↦
       let pipe = rw c.from-pipe.ensures at w.if-pipe-lt-COUNTERS_OF_LINE.true in
       let waits = sym w.value-is ∙ c.if-not-slots-l.true in
-      rw c.from-pipe.ensures (search (tests, if_eta, pipe, waits) depth 12)
+      rw (c.from-pipe.ensures, c.requires.1) (search (tests, if_eta, pipe, waits) depth 12)
   | else-pipe-lt-COUNTERS_OF_LINE w ↦ absurd (never (sym c.if-not-slots-l.true ∙ w.value-is ∙ le-ltb _ _ w.if-pipe-lt-COUNTERS_OF_LINE.false))
 ]
 
