@@ -1,4 +1,4 @@
-// A token's finish at pipe 0, on tables whose numbers are within their ranges.
+// The passes of a token's finish at pipe 0, on tables whose numbers are within their ranges.
 // The passes begin at the first cell that watches the token; those that write know how many are left, so that there is a next cell as long as one is.
 ghost use Rattle.std.specs.Prelude.{◌≡◌, true, false, ◌+◌, ◌-◌, ◌<◌, ◌≤◌, length, replicate};
 ghost use Rattle.std.proofs.lemmas.List.Edits.{sets};
@@ -8,7 +8,7 @@ ghost use Rattle.tables.specs.declared.Tables.{Tables};
 ghost use Rattle.tables.specs.Layout.{deferred_at, watches_at, ready_at, lent, most_tokens, ready_mark, facts_of};
 ghost use Rattle.tables.specs.Facts.{left_hold};
 ghost use Rattle.tables.specs.State.{InRange, marks};
-ghost use Rattle.tables.specs.Releasing.{is_held, sifted_from, tally_of, Unwatched, renewed_from, closed_by, moved_by, release_of, released_of, released_memory, passes};
+ghost use Rattle.tables.specs.Releasing.{is_held, sifted_from, tally_of, Unwatched, renewed_from, closed_by, moved_by, release_of, released_of, released_memory};
 
 use crate::moving::move_down;
 use crate::watching;
@@ -18,7 +18,13 @@ use tables::{
 };
 
 // Of the tokens that watch this one: how many no other number holds, and how many another does. The first of them is in the cell `watcher`.
-fn tally(mem: &[u16], tokens: u16, past: u16, watcher: usize, held: usize) -> Result<Tally, Spoiled>
+pub(crate) fn tally(
+    mem: &[u16],
+    tokens: u16,
+    past: u16,
+    watcher: usize,
+    held: usize,
+) -> Result<Tally, Spoiled>
     requires lent_in_bounds { (lent ≤ length mem.now) × (tokens ≤ most_tokens) }
     requires watcher_le_held { (watcher ≤ held) × (held ≤ most_tokens) }
     requires unwatched { Unwatched mem.now past watcher }
@@ -46,6 +52,7 @@ fn renew(mem: &mut [u16], tokens: u16, past: u16, watcher: usize, held: usize, k
 {
     let mut from = watcher;
     let mut left = kept;
+    // Not until no cell is found, as in `tally`: that would look through all watches behind the last.
     while 0 < left {
         let cell = watching::next(mem, past, from, held).unwrap();
         let token = mem[DEFERRED + cell];
@@ -140,7 +147,12 @@ fn move_woken(mem: &mut [u16], t: Tables, past: u16, watcher: usize, n: u16) -> 
 }
 
 // A token that others watch finishes pipe 0. The first of them is in the cell `watcher`.
-fn release_watched(mem: &mut [u16], t: Tables, past: u16, watcher: usize) -> Result<Tables, Spoiled>
+pub(crate) fn release_watched(
+    mem: &mut [u16],
+    t: Tables,
+    past: u16,
+    watcher: usize,
+) -> Result<Tables, Spoiled>
     requires in_range { InRange t }
     requires lent_in_bounds { (lent ≤ length mem.old) × (past < t.tokens) }
     requires watcher_le_held { (watcher ≤ t.held) × Unwatched mem.old past watcher }
@@ -159,34 +171,4 @@ fn release_watched(mem: &mut [u16], t: Tables, past: u16, watcher: usize) -> Res
         return Ok(t);
     }
     Ok(move_woken(mem, t, past, watcher, watchers.free))
-}
-
-// Whether a token's finish would pass: no record of a token that watches it is bad, and the queue has room for those that wake.
-pub(crate) fn would_release(mem: &[u16], t: Tables, past: u16) -> bool
-    requires in_range { InRange t }
-    requires lent_in_bounds { lent ≤ length mem.now }
-    ensures { result ≡ passes (release_of t past mem.now) }
-{
-    let held = usize::from(t.held);
-    let room = TOKENS - t.end;
-    past < t.tokens && tally(mem, t.tokens, past, 0, held).is_ok_and(|found| found.free <= room)
-}
-
-// A token finishes pipe 0: its waiters lose it, and those with none left become ready.
-pub(crate) fn release(mem: &mut [u16], t: Tables, past: u16) -> Result<Tables, Spoiled>
-    requires in_range { InRange t }
-    requires lent_in_bounds { lent ≤ length mem.old }
-    ensures answer { result ≡ released_of (release_of t past mem.old) }
-    ensures memory { mem.new ≡ released_memory mem.old (release_of t past mem.old) }
-{
-    if t.tokens <= past {
-        return Err(Spoiled);
-    }
-    let held = usize::from(t.held);
-    if let Some(watcher) = watching::next(mem, past, 0, held) {
-        return release_watched(mem, t, past, watcher);
-    }
-    // Most tokens are watched by none: then only the standing changes.
-    mem[STANDINGS + usize::from(past)] = FINISHED_MARK;
-    Ok(t)
 }
