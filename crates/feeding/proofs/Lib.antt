@@ -1,2 +1,2 @@
--- What is printed of choices.
-pub mod PrintedLaws
+-- Choices in bytes.
+pub mod Choices
