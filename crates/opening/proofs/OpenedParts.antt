@@ -7,13 +7,12 @@ use native.Mathlib.Omega.{arith}
 use native.Mathlib.Numerals.{add-one}
 use lib.Dec.{eqb}
 use lib.ListN.{length, get_or, take, set, replicate, length-map}
-use lib.Seq.{take-suc, take_all, set_at, length-take-le}
+use lib.Seq.{take-suc, set_at, length-take-le}
 use Rattle.rules.specs.RunState.{Pipeline}
 use Rattle.rules.specs.Choices.{opened_counter}
 use Rattle.rules.proofs.lists.Tests.{by_test}
 use Rattle.rules.proofs.invariant.Counters.{length_tabled, tabled_used, tabled_unused}
 use Rattle.vocabulary.specs.PipeKinds.{kind_of}
-use Rattle.loading.specs.Plans.{serial_of}
 use Rattle.vocabulary.specs.PipeKinds.{serial_kind}
 use Rattle.opening.specs.Opened.{opened_counters}
 use Rattle.state.proofs.in_range.Filling.{Filled, filled_first, filled_store, filled_skip, filled_all}
@@ -87,8 +86,3 @@ module _ (bytes : List ℕ) (few : length bytes ≤ 16) where
         set_at (first_kinds p) false (replicate (16 - (p + 1)) false) (eqb (get_or bytes p 0) 83) p (length_kinds p (omega arith)),
       )
       (sym (ap (λ (l : List Bool). l ++ replicate (16 - (p + 1)) false) (kinds_next p h) ∙ append_assoc (first_kinds p) (eqb (get_or bytes p 0) 83 ∷ []) _))
-
-  pub serials_all : {s : List Bool} (p : ℕ) → p ≤ length bytes → length bytes ≤ p → s ≡ serials_to bytes p → s ≡ serial_of (map kind_of bytes)
-  serials_all p h k e =
-      let p_is : p ≡ length bytes = omega arith in
-      rw (e, take_all p bytes k, p_is, length-map (map kind_of bytes) serial_kind, length-map bytes kind_of)
