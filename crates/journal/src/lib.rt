@@ -1,4 +1,4 @@
-// Marking a whole journal: a lent slice of event records, read by this one walk.
+// Marking a whole journal: a lent slice of event records.
 #![tactic(auto)]
 
 ghost use Rattle.std.specs.Prelude.{◌≡◌};
@@ -13,14 +13,5 @@ pub fn mark(file: &[u8], workers: u16, events: &[EventRecord], mem: &mut [u16]) 
     ensures { (verdict_of result ≡ mark_of file.now workers events.now mem.old)
         × (mem.new ≡ left_memory (walked file.now workers events.now mem.old)) }
 {
-    let mut p = marking::begin(file, workers, mem);
-    let mut i = 0;
-    while i < events.len() {
-        p = marking::mark_event(p, mem, i, events[i]);
-        if p.settled() {
-            break;
-        }
-        i += 1;
-    }
-    marking::close(p)
+    marking::mark_all(file, workers, &events, mem)
 }

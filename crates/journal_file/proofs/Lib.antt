@@ -1,4 +1,4 @@
--- A journal's records, one by one;
+-- A journal's records, as the code reads them;
 pub mod Steps
 -- and some, computed.
 pub mod Examples

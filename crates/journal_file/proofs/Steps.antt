@@ -1,71 +1,39 @@
--- A journal's records, one by one.
-use mathlib.Core.Path.{◌≡◌, sym, ap, ◌∙◌}
-use mathlib.Core.List.{List, [], ◌∷◌}
-use Prim.Native.Nat.{ℕ, suc, ◌+◌, ◌-◌, ◌*◌, ◌<◌, ◌≤◌}
-use native.Mathlib.Omega.{arith}
-use lib.ListN.{length, get_or, drop}
-use lib.Seq.{get_or-drop, drop-drop}
-use Rattle.vocabulary.specs.declared.event.EventRecord.{EventRecord}
+-- A journal's records, as the code reads them.
+use Rattle.std.proofs.Common.{◌≡◌, refl, ℕ, zero, suc, ◌+◌, ◌<◌, List, ◌∷◌, length, get_or, take, drop, map, arith}
+use Rattle.std.proofs.lemmas.List.{get_or-take}
+use Rattle.std.specs.Simd.{first_chunks}
 use Rattle.fields.specs.Bytes.{field_at, field_in}
 use Rattle.fields.proofs.Fields.{field_inside}
-use Rattle.rules.specs.Journals.{Marked, mark_more}
-use Rattle.rules.proofs.runs.Journals.{more_none, more_step}
-use Rattle.tables.specs.State as tables
-use Rattle.tables.specs.Calls.{memory_source}
 use Rattle.journal_file.specs.Records.{record_in, records}
 
--- a field of the record that starts at a place
-field_of : (s : List ℕ) (at i : ℕ) {r : ℕ} → at + i + 2 ≤ length s → r ≡ field_in s (at + i) → r ≡ field_at (drop at s) i
-field_of s at i h e =
-    let q : at + i + 1 ≡ at + (i + 1) = omega arith in
-    field_inside s (at + i) h e ∙ rw (get_or-drop at s i 0, get_or-drop at s (i + 1) 0, q)
-
 -- a record by its fields
-pub record_of : (s : List ℕ) (at : ℕ) {l p t k w : ℕ} → l ≡ field_in s (at + 1) → p ≡ field_in s (at + 3) → t ≡ field_in s (at + 5) →
-    k ≡ field_in s (at + 7) → w ≡ field_in s (at + 9) → at + 11 ≤ length s →
-    record { kind = get_or s at 0; line = l; pipe = p; token = t; place = k; worker = w } ≡ record_in (drop at s)
-record_of s at l-is p-is t-is k-is w_is h =
-    let q : at ≡ at + 0 = omega arith in λ j. record {
-      kind = (ap (λ x. get_or s x 0) q ∙ sym (get_or-drop at s 0 0)) j;
-      line = field_of s at 1 (omega arith) l-is j;
-      pipe = field_of s at 3 (omega arith) p-is j;
-      token = field_of s at 5 (omega arith) t-is j;
-      place = field_of s at 7 (omega arith) k-is j;
-      worker = field_of s at 9 (omega arith) w_is j;
-    }
+pub record_of : (s : List ℕ) {l p t k w : ℕ} → length s ≡ 11 → l ≡ field_in s 1 → p ≡ field_in s 3 → t ≡ field_in s 5 → k ≡ field_in s 7 → w ≡ field_in s 9 →
+    record { kind = get_or s 0 0; line = l; pipe = p; token = t; place = k; worker = w } ≡ record_in s
+record_of s h l_is p_is t_is k_is w_is = λ j. record {
+  kind = get_or s 0 0;
+  line = field_inside s 1 (omega arith) l_is j;
+  pipe = field_inside s 3 (omega arith) p_is j;
+  token = field_inside s 5 (omega arith) t_is j;
+  place = field_inside s 7 (omega arith) k_is j;
+  worker = field_inside s 9 (omega arith) w_is j;
+}
 
--- the records from an index on, up to a count
-abbrev pub from : List ℕ → ℕ → ℕ → List EventRecord
-from s count i = records (count - i) (drop (11 * i) s)
+-- a record is in the first 11 bytes
+field_taken : (s : List ℕ) (i : ℕ) → i + 1 < 11 → field_at (take 11 s) i ≡ field_at s i
+field_taken s i h = let below : i < 11 = omega arith in rw (get_or-take 11 s i 0 below, get_or-take 11 s (i + 1) 0 h)
 
-pub from_first : (s : List ℕ) (count : ℕ) → records count s ≡ from s count 0
-from_first s count =
-    let q : count - 0 ≡ count = omega arith in
-    rw q
+record_taken : (s : List ℕ) → record_in (take 11 s) ≡ record_in s
+record_taken s = λ j. record {
+  kind = get_or-take 11 s 0 0 (omega arith) j;
+  line = field_taken s 1 (omega arith) j;
+  pipe = field_taken s 3 (omega arith) j;
+  token = field_taken s 5 (omega arith) j;
+  place = field_taken s 7 (omega arith) j;
+  worker = field_taken s 9 (omega arith) j;
+}
 
-module _ (s : List ℕ) (count i : ℕ) where
-  record_turn : i < count → from s count i ≡ record_in (drop (11 * i) s) ∷ from s count (i + 1)
-  unfolding records
-  record_turn h =
-      let one : count - i ≡ suc (count - (i + 1)) = omega arith in
-      let next : 11 * i + 11 ≡ 11 * (i + 1) = omega arith in
-      rw (one, drop-drop 11 (11 * i) s, next)
-
-  records_end : count ≤ i → from s count i ≡ []
-  unfolding records
-  records_end h =
-      let none : count - i ≡ 0 = omega arith in
-      rw none
-
-  module _ (w : Marked tables.State) where
-    -- an event leads on to those that are left
-    pub marks_turn : (w' : Marked tables.State) {r : EventRecord} → i < count → r ≡ record_in (drop (11 * i) s) → w' ≡ mark_more memory_source w i (r ∷ []) →
-        mark_more memory_source w i (from s count i) ≡ mark_more memory_source w' (i + 1) (from s count (i + 1))
-    marks_turn w' h r-is w_is =
-        ap (mark_more memory_source w i) (record_turn h)
-        ∙ sym (more_step memory_source w i (record_in (drop (11 * i) s)) (from s count (i + 1)))
-        ∙ ap (λ x. mark_more memory_source x (i + 1) (from s count (i + 1))) (sym (w_is ∙ ap (λ e. mark_more memory_source w i (e ∷ [])) r-is))
-
-    -- none is left
-    pub marks_end : count ≤ i → mark_more memory_source w i (from s count i) ≡ w
-    marks_end h = ap (mark_more memory_source w i) (records_end h) ∙ more_none memory_source w i
+-- the records are those of the chunks
+pub records_of_chunks : (n : ℕ) (s : List ℕ) → map record_in (first_chunks 11 n s) ≡ records n s
+unfolding records
+records_of_chunks zero s = refl
+records_of_chunks (suc n) s = λ j. record_taken s j ∷ records_of_chunks n (drop 11 s) j

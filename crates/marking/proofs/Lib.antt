@@ -1,2 +1,4 @@
--- Marking, as the code meets it.
+-- Marking, as the code meets it;
 pub mod StepLaws
+-- and a journal's events, one by one.
+pub mod WalkLaws

@@ -1,7 +1,8 @@
 -- Marking a written journal (02, 2.6): of a plan file, W and event records, in lent memory.
-use Rattle.std.specs.Prelude.{Bool, List, ℕ}
+use Rattle.std.specs.Prelude.{Bool, List, ℕ, Result, Ok, Err}
 use Rattle.vocabulary.specs.Refusals.{number_of}
 use Rattle.vocabulary.specs.declared.event.EventRecord.{EventRecord}
+use Rattle.vocabulary.specs.declared.refusal.Refusal.{Refusal}
 use Rattle.rules.specs.RunState.{Machine}
 use Rattle.rules.specs.Journals.{Verdict, Marked, closing, mark_more}
 use Rattle.rules.specs.Journals as paper
@@ -9,7 +10,6 @@ use Rattle.tables.specs.State as tables
 use Rattle.tables.specs.Calls.{memory_source}
 use Rattle.state.specs.Machines.{machine_of}
 use Rattle.state.specs.Ending.{over_of}
-use Rattle.opening.specs.declared.Opening.{Opening}
 use Rattle.opening.specs.Opened.{open_of}
 use Rattle.marking.specs.declared.Marking.{Marking}
 use Rattle.marking.specs.declared.Progress.{Progress}
@@ -26,9 +26,9 @@ unfoldable pub marked_of : Progress → List ℕ → Marked tables.State
 marked_of p m = record { verdict = verdict_of p.marking; machine = machine_of p.state m }
 
 -- "The opening's numbers 1 to 9 come before any event"
-abbrev pub opened_verdict : Opening → Verdict
-opened_verdict Opening.Accepted = paper.CorrectSoFar
-opened_verdict (Opening.Refused why) = paper.NotOpened (number_of why)
+abbrev pub opened_verdict : Result (Unit {0}) Refusal → Verdict
+opened_verdict (Ok u) = paper.CorrectSoFar
+opened_verdict (Err why) = paper.NotOpened (number_of why)
 
 unfoldable pub begun : List ℕ → ℕ → List ℕ → Marked tables.State
 begun file workers m =

@@ -1,16 +1,16 @@
 // Marking a journal, events that were written down without the choices that gave them: how it begins, one event, and how it ends.
 #![tactic(auto)]
 
-ghost use Rattle.std.specs.Prelude.{◌≡◌, not, [], ◌∷◌};
+ghost use Rattle.std.specs.Prelude.{◌≡◌, not, List, [], ◌∷◌, length, slice_get};
+ghost use Rattle.vocabulary.specs.declared.event.EventRecord.{EventRecord};
 ghost use Rattle.rules.specs.Answers.{answer_of};
 ghost use Rattle.rules.specs.Journals.{CorrectSoFar, Wrong, goes_on, closing, unless_refused, mark_more};
 ghost use Rattle.tables.specs.Calls.{memory_source};
 ghost use Rattle.state.specs.Ending.{ended_of};
-ghost use Rattle.marking.specs.Marking.{verdict_of, marked_of, begun};
+ghost use Rattle.marking.specs.Marking.{verdict_of, marked_of, begun, walked, mark_of, left_memory};
 
-use opening::Opening;
 use state::State;
-use vocabulary::{Answer, EventRecord, Refusal};
+use vocabulary::{Event, EventRecord, Refusal};
 
 // What marking says.
 #[derive(Clone, Copy)]
@@ -32,23 +32,44 @@ pub struct Progress {
     pub state: State,
 }
 
+// A journal: events, each with its index.
+pub trait Journal {
+    ghost events: { Self → List EventRecord };
+
+    // How many there are.
+    fn count(&self) -> usize
+        ensures { result ≡ length (events self.now) };
+
+    // The event with this index, if there are so many.
+    fn event(&self, i: usize) -> Option<EventRecord>
+        ensures { result ≡ slice_get (events self.now) i };
+}
+
+impl Journal for &[EventRecord] {
+    ghost events = { λ records. records.now };
+
+    fn count(&self) -> usize {
+        self.len()
+    }
+
+    fn event(&self, i: usize) -> Option<EventRecord> {
+        self.get(i).copied()
+    }
+}
+
 // Opens the run of a journal.
 #[tactic(auto, unfolding(crate::specs::Marking::marked_of, crate::specs::Marking::begun))]
 pub fn begin(file: &[u8], workers: u16, mem: &mut [u16]) -> Progress
     ensures { marked_of result mem.new ≡ begun file.now workers mem.old }
 {
     let opened = opening::open(file, workers, mem);
-    let answer = opened.answer;
-    let state = opened.state;
-    match answer {
-        Opening::Accepted => Progress {
-            marking: Marking::CorrectSoFar,
-            state,
-        },
-        Opening::Refused(why) => Progress {
-            marking: Marking::NotOpened(why),
-            state,
-        },
+    let marking = match opened.answer {
+        Ok(()) => Marking::CorrectSoFar,
+        Err(why) => Marking::NotOpened(why),
+    };
+    Progress {
+        marking,
+        state: opened.state,
     }
 }
 
@@ -57,26 +78,18 @@ impl Progress {
     pub fn settled(self) -> bool
         ensures { result ≡ not (goes_on (verdict_of self.marking)) }
     {
-        let marking = self.marking;
-        match marking {
-            Marking::Complete => true,
-            Marking::CorrectSoFar => false,
-            Marking::Wrong(_, _) => true,
-            Marking::NotOpened(_) => true,
-        }
+        !matches!(self.marking, Marking::CorrectSoFar)
     }
 }
 
 // What marking says after the event with this index, by what its choice answers.
-#[tactic(auto, unfolding(rules::specs::Answers::answer_of))]
-fn marking_after(i: usize, answer: Answer) -> Marking
+#[tactic(auto, using(crate::proofs::StepLaws::unless_made), unfolding(rules::specs::Answers::answer_of))]
+fn marking_after(i: usize, answer: Result<Event, Refusal>) -> Marking
     ensures { verdict_of result ≡ unless_refused (answer_of answer) (Wrong i) CorrectSoFar }
 {
     match answer {
-        Answer::Started(_) => Marking::CorrectSoFar,
-        Answer::Finished(_) => Marking::CorrectSoFar,
-        Answer::Stopped(_) => Marking::CorrectSoFar,
-        Answer::Refused(why) => Marking::Wrong(i, why),
+        Ok(_) => Marking::CorrectSoFar,
+        Err(why) => Marking::Wrong(i, why),
     }
 }
 
@@ -88,24 +101,38 @@ pub fn mark_event(p: Progress, mem: &mut [u16], i: usize, event: EventRecord) ->
     if p.settled() {
         return p;
     }
-    let state = p.state;
-    let chosen = engine::take_record(state, mem, event, Refusal::JournalDiffers);
-    let answer = chosen.answer;
-    let state = chosen.state;
-    let marking = marking_after(i, answer);
-    Progress { marking, state }
+    let chosen = engine::take_record(p.state, mem, event, Refusal::JournalDiffers);
+    Progress {
+        marking: marking_after(i, chosen.answer),
+        state: chosen.state,
+    }
 }
 
 // What marking says when no event is left.
 pub fn close(p: Progress) -> Marking
     ensures { verdict_of result ≡ closing (ended_of p.state) (verdict_of p.marking) }
 {
-    if p.settled() {
-        return p.marking;
+    match p.marking {
+        Marking::CorrectSoFar if state::ended(p.state) => Marking::Complete,
+        marking => marking,
     }
-    let state = p.state;
-    if state::ended(state) {
-        return Marking::Complete;
+}
+
+// Marks a journal: the run of a plan with so many workers is opened in the lent memory, and the events are made one after another, up to
+// the first that is not what its line would do.
+pub fn mark_all<J: Journal>(file: &[u8], workers: u16, journal: &J, mem: &mut [u16]) -> Marking
+    ensures { (verdict_of result ≡ mark_of file.now workers (J.events journal.now) mem.old)
+        × (mem.new ≡ left_memory (walked file.now workers (J.events journal.now) mem.old)) }
+{
+    let mut p = begin(file, workers, mem);
+    for i in 0..journal.count() {
+        let Some(event) = journal.event(i) else {
+            break;
+        };
+        p = mark_event(p, mem, i, event);
+        if p.settled() {
+            break;
+        }
     }
-    Marking::CorrectSoFar
+    close(p)
 }

@@ -1,2 +1,0 @@
--- The walk over a journal, turn by turn.
-pub mod WalkLaws
