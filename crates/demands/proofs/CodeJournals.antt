@@ -1,4 +1,5 @@
 -- The code marks a journal as the choices that give its events say.
+use Rattle.std.proofs.Common.{Ok, Err}
 use mathlib.Core.Path.{◌≡◌, refl, sym, ap, subst, ◌∙◌}
 use mathlib.Core.Logic.{inl, inr}
 use mathlib.Core.Bool.{Bool, true, false}
@@ -30,7 +31,6 @@ use Rattle.tables.specs.Calls.{memory_source}
 use Rattle.state.specs.Machines.{machine_of}
 use Rattle.state.specs.Ending.{ended_of}
 use Rattle.state.proofs.in_range.SoundLaws.{over_is}
-use Rattle.opening.specs.declared.Opening.{Opening}
 use Rattle.opening.specs.Opened.{opened_machine, open_of}
 use Rattle.marking.specs.declared.Marking.{Marking}
 use Rattle.marking.specs.Marking.{verdict_of, opened_verdict, begun, over_in, walked, closed, left_memory}
@@ -79,7 +79,7 @@ kinds (Marking.NotOpened why) = unopened why refl
 
 module _ (file : List ℕ) (bytes : Bytes file) (workers : ℕ) (events : List EventRecord) (m : List ℕ) (r : Marking) (m' : List ℕ) (called : MarkCall file workers events m r m') where
   -- a refused opening
-  when_refused : (why : Refusal) → (open_of file workers m).0.answer ≡ Opening.Refused why → (r ≡ Marking.NotOpened why) × (m' ≡ m)
+  when_refused : (why : Refusal) → (open_of file workers m).0.answer ≡ Err why → (r ≡ Marking.NotOpened why) × (m' ≡ m)
   unfolding begun machine_of
   when_refused why e =
       let verdict-is : (begun file workers m).verdict ≡ paper.NotOpened (number_of why) = ap opened_verdict e in
@@ -87,7 +87,7 @@ module _ (file : List ℕ) (bytes : Bytes file) (workers : ℕ) (events : List E
       let told_is : verdict_of r ≡ paper.NotOpened (number_of why) = called.0 ∙ ap closed stays ∙ rw verdict-is in
       (one_marking r (Marking.NotOpened why) told_is, called.1 ∙ ap left_memory stays ∙ (refusing (read_of file) workers m why e).1)
 
-  module _ (accepts : (open_of file workers m).0.answer ≡ Opening.Accepted) where
+  module _ (accepts : (open_of file workers m).0.answer ≡ Ok tt) where
     here : OpenedRun file workers m
     here = opened_run_lem file bytes workers m accepts
 
@@ -209,7 +209,7 @@ demands_of a p valid file_is = subst Demands (one_plan a.plan p a.valid valid (s
 -- the journal of a session
 module _ {file : List ℕ} (bytes : Bytes file) {workers : ℕ} {lent : List ℕ} {cs : List Choice} (s : Session file workers lent cs)
     (m : List ℕ) (enough : 32768 ≤ length m) (r : Marking) (m' : List ℕ) (called : MarkCall file workers (journal_of (events_of s)) m r m') where
-  accepts : (open_of file workers m).0.answer ≡ Opening.Accepted
+  accepts : (open_of file workers m).0.answer ≡ Ok tt
   accepts = let a = opened_here bytes s in (opens_exactly file bytes workers m).1 (a.plan, a.valid, a.file_is, a.manned, enough)
 
   abbrev marked : MarkedRun file workers (journal_of (events_of s)) m r m'
@@ -256,7 +256,7 @@ module _ {file : List ℕ} (bytes : Bytes file) {workers : ℕ} {lent : List ℕ
 -- a journal marked with W workers, and with more
 module _ (file : List ℕ) (bytes : Bytes file) (events : List EventRecord) {w v : ℕ} (more : w ≤ v) (most : v ≤ 32)
     (m m' k k' : List ℕ) (r q : Marking) (called : MarkCall file w events m r m') (again : MarkCall file v events k q k')
-    (accepts-first : (open_of file w m).0.answer ≡ Opening.Accepted) (long : 32768 ≤ length k) where
+    (accepts-first : (open_of file w m).0.answer ≡ Ok tt) (long : 32768 ≤ length k) where
   first : MarkedRun file w events m r m'
   first = (code_marks file bytes w events m r m' called).accepted accepts-first
 

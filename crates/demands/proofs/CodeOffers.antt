@@ -1,4 +1,5 @@
 -- An offer of the code, followed by its taking, is the choice.
+use Rattle.std.proofs.Common.{Result, Err}
 use mathlib.Core.Path.{◌≡◌, refl, sym, ap, ◌∙◌}
 use mathlib.Core.List.{List}
 use Prim.Native.Nat.{ℕ}
@@ -9,7 +10,6 @@ use Rattle.rules.specs.Offers.{is_refused, event_of, take_offered}
 use Rattle.rules.proofs.choices.Offered.{not_refused, taken_as_chosen, taken_own, taken_other, taken_event, taken_unchanged}
 use Rattle.vocabulary.specs.Refusals.{number_of}
 use Rattle.vocabulary.specs.Events.{event_record}
-use Rattle.vocabulary.specs.declared.answer.Answer.{Answer}
 use Rattle.vocabulary.specs.declared.event.Event.{Event}
 use Rattle.vocabulary.specs.declared.refusal.Refusal.{Refusal}
 use Rattle.tables.specs.Calls.{memory_source}
@@ -27,7 +27,7 @@ event_is (Event.Started s) = refl
 event_is (Event.Finished s) = refl
 event_is (Event.Stopped s) = refl
 
-pub offer_then_take : (s : State) (m : List ℕ) (w l : ℕ) (a : Answer) → OfferCall s m w l a → OfferThenTake s m w l a
+pub offer_then_take : (s : State) (m : List ℕ) (w l : ℕ) (a : Result Event Refusal) → OfferCall s m w l a → OfferThenTake s m w l a
 unfolding chosen_of answer_of
 offer_then_take s m w l a offers = record {
   offered = λ c k chooses. one_answer c.answer a (ap (λ x. x.answer) chooses ∙ sym offers);
@@ -35,12 +35,12 @@ offer_then_take s m w l a offers = record {
       let told : (choose memory_source (machine_of s m) w l).answer ≡ event_of e = sym offers ∙ ap answer_of a-is ∙ event_is e in
       one_return r c m' k (takes ∙ taken_as_chosen memory_source (machine_of s m) w l e told ∙ sym chooses);
   refused = λ why a-is c k chooses.
-      let answer-is : c.answer ≡ Answer.Refused why = one_answer c.answer a (ap (λ x. x.answer) chooses ∙ sym offers) ∙ a-is in
+      let answer-is : c.answer ≡ Err why = one_answer c.answer a (ap (λ x. x.answer) chooses ∙ sym offers) ∙ a-is in
       let (state_is, same) = refused_unchanged s m w l c k (number_of why) chooses (ap answer_of answer-is) in
       (λ i. record { answer = answer-is i; state = state_is i }, same);
 }
 
-pub refusal : (why : Refusal) (a : Answer) → a ≡ Answer.Refused why → answer_of a ≡ rules.Refused (number_of why)
+pub refusal : (why : Refusal) (a : Result Event Refusal) → a ≡ Err why → answer_of a ≡ rules.Refused (number_of why)
 unfolding answer_of
 refusal why a e = ap answer_of e
 

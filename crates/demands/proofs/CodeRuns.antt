@@ -1,4 +1,5 @@
 -- Every session of the code is as the demands say, and a refused opening changes nothing.
+use Rattle.std.proofs.Common.{Result, Err}
 use mathlib.Core.Path.{◌≡◌, refl, sym, ap, subst, ◌∙◌}
 use mathlib.Core.Bool.{true}
 use mathlib.Core.List.{List, [], ◌∷◌, ◌++◌, map}
@@ -11,7 +12,7 @@ use Rattle.rules.specs.Choices.{Choice, Refused, choose, choose_by, answers, fol
 use Rattle.rules.specs.Ranges.{sound, numbers_sound}
 use Rattle.rules.specs.WholeRuns.{WorkersInRange}
 use Rattle.rules.specs.Answers.{answer_of}
-use Rattle.vocabulary.specs.declared.answer.Answer.{Answer}
+use Rattle.vocabulary.specs.declared.event.Event.{Event}
 use Rattle.vocabulary.specs.declared.refusal.Refusal.{Refusal}
 use Rattle.rules.proofs.choices.Accepting.{unspoiled_sound}
 use Rattle.fields.specs.Bytes.{Bytes}
@@ -29,14 +30,13 @@ use Rattle.opening.specs.Opened.{state_of, open_of, refused_with}
 use Rattle.demands.specs.OpenedRun.{OpenedRun}
 use Rattle.demands.specs.CodeRuns.{OpenCall, Calls, no_call, call, Session, events_of, SameEnd, CodeDemands, RefusedOpening}
 use Rattle.state.specs.declared.State.{State}
-use Rattle.opening.specs.declared.Opening.{Opening}
 use Rattle.opening.specs.declared.Opened.{Opened}
 use Rattle.demands.proofs.Opens.{refusing, opened_run_lem}
 use Rattle.state.proofs.in_range.SoundLaws.{ended_is as ended_as_rules}
 use Rattle.demands.proofs.Unchanged.{refused_unchanged}
 
 -- the calls' answers and the machine that they leave are those of the rules' lists of choices
-pub calls_told : {s t : State} {m end : List ℕ} {cs : List Choice} {told : List Answer} → Calls s m cs told t end →
+pub calls_told : {s t : State} {m end : List ℕ} {cs : List Choice} {told : List (Result Event Refusal)} → Calls s m cs told t end →
     (map answer_of told ≡ answers memory_source (machine_of s m) cs) × (machine_of t end ≡ follow memory_source (machine_of s m) cs)
 unfolding answers follow chosen_of
 calls_told no_call = (refl, refl)
@@ -139,7 +139,7 @@ zeros_refused why m w l = refl
 
 -- a refused opening writes nothing, and a choice on what it returns gets 14
 pub refused_opening : (file : List ℕ) (workers : ℕ) (m : List ℕ) (o : Opened) (m' : List ℕ) (why : Refusal) →
-    OpenCall file workers m o m' → o.answer ≡ Opening.Refused why → RefusedOpening why m o m'
+    OpenCall file workers m o m' → o.answer ≡ Err why → RefusedOpening why m o m'
 unfolding chosen_of
 refused_opening file workers m o m' why (o_is, m-is) e =
     let (zeros, kept) = refusing (read_of file) workers m why (ap (λ x. x.answer) (sym o_is) ∙ e) in

@@ -1,4 +1,5 @@
 -- The laid-out memory has every token's record, and every standing 0.
+use Rattle.std.proofs.Common.{Ok}
 use mathlib.Core.Path.{◌≡◌, refl, sym, ap, ◌∙◌}
 use mathlib.Core.Bool.{false}
 use mathlib.Core.List.{List, [], ◌∷◌, ◌++◌, append_assoc}
@@ -15,8 +16,7 @@ use Rattle.rules.proofs.lists.Tests.{by_test}
 use Rattle.rules.proofs.lists.ListTables.{get_d_table, length_table}
 use Rattle.plan.specs.Plan.{Record, ValidRecord}
 use Rattle.rules.specs.Lists.{Every}
-use Rattle.tables.specs.declared.Numbers.{Numbers}
-use Rattle.tables.specs.Facts.{standing_of, numbers_at, numbers_of as part_of}
+use Rattle.tables.specs.Facts.{part, standing_of, numbers_at, numbers_of as part_of}
 use Rattle.tables.specs.Matching.{Recorded}
 use Rattle.loading.specs.Plans.{filled_up, numbers_in}
 use Rattle.loading.specs.Layout.{record_fields, records_fields, place_of, zeros, laid_facts}
@@ -50,7 +50,7 @@ module _ (front ns rest f : List ℕ) (are : f ≡ front ++ (length ns ∷ (ns +
   count_at = rw (are, get_or_at front (length ns) (ns ++ rest) 0 (length front) refl)
 
   part_at : 1 ≤ length ns → length ns ≤ 16 → length front + 1 + length ns ≤ 12288 →
-      numbers_at f (length front + 1) ≡ Numbers.Part (length front + 1) (length front + 1 + length ns)
+      numbers_at f (length front + 1) ≡ Ok (part (length front + 1) (length front + 1 + length ns))
   unfolding numbers_at
   part_at some most fits =
       let head : length front + 1 - 1 ≡ length front = omega arith in

@@ -1,4 +1,5 @@
 -- Answers and returns of the code that stand for one are one.
+use Rattle.std.proofs.Common.{Result, Ok, Err}
 use mathlib.Core.Path.{◌≡◌, refl, sym, ap, ◌∙◌}
 use mathlib.Core.List.{List}
 use Prim.Native.Nat.{ℕ}
@@ -7,7 +8,7 @@ use Rattle.rules.specs.Lists.{if}
 use Rattle.rules.specs.Choices as rules
 use Rattle.rules.specs.Answers.{answer_of}
 use Rattle.vocabulary.specs.Refusals.{number_of}
-use Rattle.vocabulary.specs.declared.answer.Answer.{Answer}
+use Rattle.vocabulary.specs.declared.event.Event.{Event}
 use Rattle.vocabulary.specs.declared.event.Step.{Step}
 use Rattle.vocabulary.specs.declared.refusal.Refusal.{Refusal}
 use Rattle.engine.specs.declared.Chosen.{Chosen}
@@ -57,20 +58,20 @@ step l p t k w = record {
   worker = record { 0 = w };
 }
 
-answer_at : rules.Answer → Answer
-answer_at (rules.Started l p t k w) = Answer.Started (step l p t k w)
-answer_at (rules.Finished l p t k w) = Answer.Finished (step l p t k w)
-answer_at (rules.Stopped l w) = Answer.Stopped (record { line = record { 0 = l }; worker = record { 0 = w } })
-answer_at (rules.Refused n) = Answer.Refused (refusal_at n)
+answer_at : rules.Answer → Result Event Refusal
+answer_at (rules.Started l p t k w) = Ok (Event.Started (step l p t k w))
+answer_at (rules.Finished l p t k w) = Ok (Event.Finished (step l p t k w))
+answer_at (rules.Stopped l w) = Ok (Event.Stopped (record { line = record { 0 = l }; worker = record { 0 = w } }))
+answer_at (rules.Refused n) = Err (refusal_at n)
 
-answer_back : (a : Answer) → answer_at (answer_of a) ≡ a
+answer_back : (a : Result Event Refusal) → answer_at (answer_of a) ≡ a
 unfolding answer_at answer_of
-answer_back (Answer.Started s) = refl
-answer_back (Answer.Finished s) = refl
-answer_back (Answer.Stopped s) = refl
-answer_back (Answer.Refused r) = ap Answer.Refused (number_back r)
+answer_back (Ok (Event.Started s)) = refl
+answer_back (Ok (Event.Finished s)) = refl
+answer_back (Ok (Event.Stopped s)) = refl
+answer_back (Err r) = ap Err (number_back r)
 
-pub one_answer : (a b : Answer) → answer_of a ≡ answer_of b → a ≡ b
+pub one_answer : (a b : Result Event Refusal) → answer_of a ≡ answer_of b → a ≡ b
 one_answer a b e = sym (answer_back a) ∙ ap answer_at e ∙ answer_back b
 
 -- two returns, with the memories that they left

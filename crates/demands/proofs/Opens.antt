@@ -1,4 +1,5 @@
 -- When an opening is accepted, and what it leaves then.
+use Rattle.std.proofs.Common.{Ok, Err}
 use mathlib.Core.Path.{◌≡◌, refl, ap}
 use mathlib.Core.Logic.{◌↔◌}
 use mathlib.Core.List.{List}
@@ -18,14 +19,13 @@ use Rattle.loading.specs.Layout.{laid_out}
 use Rattle.loading.specs.Loading.{load_as}
 use Rattle.loading.proofs.loading.LoadCases.{turned_down, laid, loading}
 use Rattle.demands.proofs.Demands.{demands}
-use Rattle.opening.specs.declared.Opening.{Opening}
 use Rattle.opening.specs.declared.Opened.{Opened}
 use Rattle.state.specs.Machines.{machine_of}
 use Rattle.opening.specs.Opened.{opened_with, refused_with, opened_by, open_of}
 use Rattle.demands.specs.OpenedRun.{OpenedRun}
 
 -- what an accepting outcome tells
-accepting : (o : Outcome) (workers : ℕ) (m : List ℕ) → (opened_by (load_as o workers m).0 workers m).answer ≡ Opening.Accepted →
+accepting : (o : Outcome) (workers : ℕ) (m : List ℕ) → (opened_by (load_as o workers m).0 workers m).answer ≡ Ok tt →
     (p : Plan) × (o ≡ accepted p) × WorkersInRange workers × (32768 ≤ length m)
 unfolding opened_by refused_with
 accepting o workers m e = elim (loading o workers m) [
@@ -34,7 +34,7 @@ accepting o workers m e = elim (loading o workers m) [
 ]
 
 -- what a refusing one tells
-pub refusing : (o : Outcome) (workers : ℕ) (m : List ℕ) (why : Refusal) → (opened_by (load_as o workers m).0 workers m).answer ≡ Opening.Refused why →
+pub refusing : (o : Outcome) (workers : ℕ) (m : List ℕ) (why : Refusal) → (opened_by (load_as o workers m).0 workers m).answer ≡ Err why →
     (opened_by (load_as o workers m).0 workers m ≡ refused_with why) × ((load_as o workers m).1 ≡ m)
 unfolding opened_by opened_with refused_with
 refusing o workers m why e = elim (loading o workers m) [
@@ -51,7 +51,7 @@ gives file workers m p e manned enough =
 
 module _ (file : List ℕ) (bytes : Bytes file) (workers : ℕ) (m : List ℕ) where
   -- an accepted opening is that of a valid plan, and every run from it is as the demands say
-  pub opened_run_lem : (open_of file workers m).0.answer ≡ Opening.Accepted → OpenedRun file workers m
+  pub opened_run_lem : (open_of file workers m).0.answer ≡ Ok tt → OpenedRun file workers m
   unfolding opened_with opened machine_of
   opened_run_lem e =
       let (p, read, manned, enough) = accepting (read_of file) workers m e in
@@ -67,7 +67,7 @@ module _ (file : List ℕ) (bytes : Bytes file) (workers : ℕ) (m : List ℕ) w
       }
 
   -- an opening is accepted exactly if the file is that of a valid plan, W is 1 to 32, and enough numbers are lent
-  pub opens_exactly : ((open_of file workers m).0.answer ≡ Opening.Accepted) ↔
+  pub opens_exactly : ((open_of file workers m).0.answer ≡ Ok tt) ↔
       ((p : Plan) × Valid p × (file ≡ encode p) × WorkersInRange workers × (32768 ≤ length m))
   unfolding opened_with
   opens_exactly = (

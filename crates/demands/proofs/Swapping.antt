@@ -1,4 +1,6 @@
 -- Two calls after a session do the same in either order.
+use Rattle.std.proofs.Common.{Result}
+use Rattle.vocabulary.specs.declared.refusal.Refusal.{Refusal}
 use mathlib.Core.Path.{◌≡◌, sym, ◌∙◌}
 use mathlib.Core.List.{List, [], ◌∷◌, map}
 use Prim.Native.Nat.{ℕ}
@@ -8,7 +10,7 @@ use Rattle.rules.specs.WholeRuns.{Accepted}
 use Rattle.rules.specs.Answers.{answer_of}
 use Rattle.rules.specs.Swapping as rules
 use Rattle.rules.proofs.runs.Swapping.{swapping as rules_swapping}
-use Rattle.vocabulary.specs.declared.answer.Answer.{Answer}
+use Rattle.vocabulary.specs.declared.event.Event.{Event}
 use Rattle.fields.specs.Bytes.{Bytes}
 use Rattle.tables.specs.Calls.{memory_source}
 use Rattle.state.specs.Machines.{machine_of}
@@ -21,7 +23,7 @@ use Rattle.demands.proofs.Unchanged.{same_state}
 use Rattle.demands.proofs.CodeRuns.{calls_told, here, run_here}
 
 module _ {file : List ℕ} (bytes : Bytes file) {workers : ℕ} {m : List ℕ} {cs : List Choice} (s : Session file workers m cs) where
-  module _ {a b : Choice} (apart : a.line ≡ b.line → ⊥) {on-a on-b on-b' on-a' : Answer} {left left' : State} {memory memory' : List ℕ}
+  module _ {a b : Choice} (apart : a.line ≡ b.line → ⊥) {on-a on-b on-b' on-a' : Result Event Refusal} {left left' : State} {memory memory' : List ℕ}
       (one_way : Calls s.state s.memory (a ∷ b ∷ []) (on-a ∷ on-b ∷ []) left memory)
       (other_way : Calls s.state s.memory (b ∷ a ∷ []) (on-b' ∷ on-a' ∷ []) left' memory')
       (accepted : Every Accepted (map answer_of (on-a ∷ on-b ∷ []))) (accepted' : Every Accepted (map answer_of (on-b' ∷ on-a' ∷ []))) where

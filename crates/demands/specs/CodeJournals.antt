@@ -1,6 +1,6 @@
 -- Marking a written journal (02, 2.6), of the code: what a caller of `mark` and of `mark_file` sees.
 -- Of a call nothing is known here but what its `ensures` says, in the same words.
-use Rattle.std.specs.Prelude.{◌≡◌, ◌↔◌, ◌⊎◌, true, false, List, ◌++◌, ℕ, ◌+◌, ◌*◌, ◌≤◌, length, take, drop}
+use Rattle.std.specs.Prelude.{◌≡◌, ◌↔◌, ◌⊎◌, true, false, List, ◌++◌, ℕ, ◌+◌, ◌*◌, ◌≤◌, length, take, drop, Ok, Err}
 use Rattle.vocabulary.specs.Refusals.{number_of}
 use Rattle.vocabulary.specs.declared.event.EventRecord.{EventRecord}
 use Rattle.vocabulary.specs.declared.refusal.Refusal.{Refusal}
@@ -13,7 +13,6 @@ use Rattle.plan.specs.Plan.{Plan, Valid, encode}
 use Rattle.tables.specs.State as tables
 use Rattle.tables.specs.Calls.{memory_source}
 use Rattle.state.specs.Ending.{ended_of}
-use Rattle.opening.specs.declared.Opening.{Opening}
 use Rattle.opening.specs.Opened.{opened_machine, open_of}
 use Rattle.marking.specs.declared.Marking.{Marking}
 use Rattle.marking.specs.Marking.{verdict_of, walked, mark_of, left_memory}
@@ -63,8 +62,8 @@ pub record MarkedRun (file : List ℕ) (workers : ℕ) (events : List EventRecor
 
 -- what holds of every call of `mark`: "The opening's numbers 1 to 9 come before any event", and nothing is written then
 pub record CodeMarks (file : List ℕ) (workers : ℕ) (events : List EventRecord) (m : List ℕ) (r : Marking) (m' : List ℕ) : Type 0 where
-  pub refused : (why : Refusal) → (open_of file workers m).0.answer ≡ Opening.Refused why → (r ≡ Marking.NotOpened why) × (m' ≡ m)
-  pub accepted : (open_of file workers m).0.answer ≡ Opening.Accepted → MarkedRun file workers events m r m'
+  pub refused : (why : Refusal) → (open_of file workers m).0.answer ≡ Err why → (r ≡ Marking.NotOpened why) × (m' ≡ m)
+  pub accepted : (open_of file workers m).0.answer ≡ Ok tt → MarkedRun file workers events m r m'
 
 -- the journal of a session of the engine, marked in whatever memory: it passes, and marking leaves the numbers that the session left
 pub record SessionMarked {file : List ℕ} {workers : ℕ} {lent : List ℕ} {choices : List Choice} (s : Session file workers lent choices) (r : Marking) (m' : List ℕ) : Type 0 where

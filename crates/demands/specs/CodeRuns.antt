@@ -1,12 +1,12 @@
 -- Runs of the code: what a caller of `open`, `choose` and `ended` sees, and what the demands say of it.
 -- Of each call nothing is known here but what its `ensures` says, in the same words.
-use Rattle.std.specs.Prelude.{◌≡◌, true, List, [], ◌∷◌, map, ℕ, ◌%◌, ◌≤◌, length, take}
+use Rattle.std.specs.Prelude.{◌≡◌, true, List, [], ◌∷◌, map, ℕ, ◌%◌, ◌≤◌, length, take, Result, Ok}
 use Rattle.rules.specs.Lists.{Every}
 use Rattle.rules.specs.Choices as rules
 use Rattle.rules.specs.Choices.{Choice, Stopped, Refused, choose}
 use Rattle.rules.specs.WholeRuns.{WorkersInRange, Accepted, last_of}
 use Rattle.rules.specs.Answers.{answer_of}
-use Rattle.vocabulary.specs.declared.answer.Answer.{Answer}
+use Rattle.vocabulary.specs.declared.event.Event.{Event}
 use Rattle.vocabulary.specs.declared.refusal.Refusal.{Refusal}
 use Rattle.plan.specs.Plan.{Plan, Valid, encode}
 use Rattle.tables.specs.Calls.{memory_source}
@@ -17,7 +17,6 @@ use Rattle.state.specs.Ending.{ended_of}
 use Rattle.opening.specs.Opened.{open_of, refused_with}
 use Rattle.state.specs.declared.State.{State}
 use Rattle.engine.specs.declared.Chosen.{Chosen}
-use Rattle.opening.specs.declared.Opening.{Opening}
 use Rattle.opening.specs.declared.Opened.{Opened}
 
 -- a call of `choose` with this state, memory, worker and line returned `r` and left the memory `m'`: what `choose` ensures
@@ -30,9 +29,9 @@ OpenCall file workers m o m' = (o ≡ (open_of file workers m).0) × (m' ≡ (op
 
 -- from a state and memory, calls of `choose` with these workers and lines, "each given the state and memory that the one before left",
 -- returned these answers and left this state and memory
-pub data Calls : State → List ℕ → List Choice → List Answer → State → List ℕ → Type 0 where
+pub data Calls : State → List ℕ → List Choice → List (Result Event Refusal) → State → List ℕ → Type 0 where
   no_call : {s : State} {m : List ℕ} → Calls s m [] [] s m
-  call : {s next last : State} {m m' end : List ℕ} {c : Choice} {cs : List Choice} {a : Answer} {rest : List Answer} →
+  call : {s next last : State} {m m' end : List ℕ} {c : Choice} {cs : List Choice} {a : Result Event Refusal} {rest : List (Result Event Refusal)} →
       ChooseCall s m c.worker c.line (record { answer = a; state = next }) m' → Calls next m' cs rest last end →
       Calls s m (c ∷ cs) (a ∷ rest) last end
 
@@ -42,8 +41,8 @@ pub record Session (file : List ℕ) (workers : ℕ) (lent : List ℕ) (choices 
   pub opening : Opened
   pub begun : List ℕ
   pub opens : OpenCall file workers lent opening begun
-  pub accepts : opening.answer ≡ Opening.Accepted
-  pub answers : List Answer
+  pub accepts : opening.answer ≡ Ok tt
+  pub answers : List (Result Event Refusal)
   pub state : State
   pub memory : List ℕ
   pub calls : Calls opening.state begun choices answers state memory

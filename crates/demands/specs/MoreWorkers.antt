@@ -1,11 +1,10 @@
 -- More workers, same sheet (02, 2.12), for runs of the code: a session's choices made again in a session of the same file with a larger
 -- limit W, "whichever workers the choices name" (2.14), and whatever the lent numbers.
-use Rattle.std.specs.Prelude.{◌≡◌, List, ℕ, ◌≤◌, length, drop}
+use Rattle.std.specs.Prelude.{◌≡◌, List, ℕ, ◌≤◌, length, drop, Ok}
 use Rattle.rules.specs.Lists.{Every}
 use Rattle.rules.specs.Choices.{Choice}
 use Rattle.rules.specs.WholeRuns.{Accepted}
 use Rattle.rules.specs.MoreWorkers.{accepted_choices, without_refusals, Known}
-use Rattle.opening.specs.declared.Opening.{Opening}
 use Rattle.opening.specs.declared.Opened.{Opened}
 use Rattle.demands.specs.CodeRuns.{OpenCall, Session, events_of, SameEnd}
 
@@ -40,7 +39,7 @@ module _ {file : List ℕ} {workers : ℕ} {lent : List ℕ} {choices : List Cho
   pub record MoreWorkers : Type 0 where
     -- the file is opened with every larger limit up to 32
     pub opens : (larger : ℕ) → workers ≤ larger → larger ≤ 32 → (m : List ℕ) → 32768 ≤ length m →
-        (o : Opened) (m' : List ℕ) → OpenCall file larger m o m' → o.answer ≡ Opening.Accepted
+        (o : Opened) (m' : List ℕ) → OpenCall file larger m o m' → o.answer ≡ Ok tt
     -- "a list of choices accepted under a limit W .. is accepted under every larger one up to 32, with the same events"
     pub reused : Every Accepted (events_of s) → {larger : ℕ} {m : List ℕ} (t : Session file larger m choices) → workers ≤ larger → Reused t
     -- of a list with refused choices, those that were accepted are accepted there too, made by themselves
