@@ -9,64 +9,53 @@ use printing::Sink;
 use std::fs::File;
 use std::os::fd::AsRawFd;
 
-// What one stored plan or run leads to: whether there was one, and the output.
-#[derive(Clone, Copy)]
-struct Turn {
-    more: bool,
+// The next stored plan, and what is said of it; none at the end of the file.
+fn next<F: Fn(i32, &[u8], Sink, &mut [u8]) -> Sink>(
+    fd: i32,
+    say: &F,
     sink: Sink,
-}
-
-// What is said of a plan's file: how it is read, or the run that is stored after it.
-fn put(fd: i32, of_runs: bool, file: &[u8], sink: Sink, out: &mut [u8]) -> Sink {
-    if of_runs {
-        return runs::put_run(fd, file, sink, out);
-    }
-    plans::put_reading(sink, out, file)
-}
-
-// The next stored plan or run.
-fn next(fd: i32, of_runs: bool, sink: Sink, out: &mut [u8]) -> Turn {
+    out: &mut [u8],
+) -> Option<Sink>
+    requires { F.IsAlwaysCallable say.now }
+{
+    let size = stored::size(fd)?;
     let mut file = io::large_buffer();
-    let size = stored::two_bytes(fd);
-    if !size.there {
-        return Turn {
-            more: false,
-            sink: sink,
-        };
-    }
-    let got = stored::bytes(fd, size.value, &mut file);
-    let said = put(fd, of_runs, &file[..got], sink, out);
-    Turn {
-        more: true,
-        sink: said,
-    }
+    let got = stored::bytes(fd, u32::from(size), &mut file);
+    Some(say(fd, &file[..got], sink, out))
 }
 
-// All of a file. (The count of turns is there for the proof that the loop ends.)
-fn each(fd: i32, of_runs: bool, out: &mut [u8]) -> Sink {
+// All of a file.
+fn each<F: Fn(i32, &[u8], Sink, &mut [u8]) -> Sink>(fd: i32, say: &F, out: &mut [u8]) -> Sink
+    requires { F.IsAlwaysCallable say.now }
+{
     let mut sink = Sink::written();
-    let mut turns = u64::MAX;
-    while turns > 0 {
-        let turn = next(fd, of_runs, sink, out);
-        sink = turn.sink;
-        if turn.more {
-            turns -= 1;
-        } else {
-            turns = 0;
-        }
+    // A proved loop has to end, and nothing says that a file does.
+    for _ in 0..u64::MAX {
+        let Some(said) = next(fd, say, sink, out) else {
+            break;
+        };
+        sink = said;
     }
     sink
 }
 
-fn print(rt: &HostRuntime, name: &str, of_runs: bool) -> std::io::Result<()> {
+fn print<F: Fn(i32, &[u8], Sink, &mut [u8]) -> Sink>(
+    rt: &HostRuntime,
+    name: &str,
+    say: &F,
+) -> std::io::Result<()>
+    requires { F.IsAlwaysCallable say.now }
+{
     let file = File::open(rt, name)?;
     let mut out = io::large_buffer();
-    let sink = each(file.as_raw_fd(), of_runs, &mut out);
+    let sink = each(file.as_raw_fd(), say, &mut out);
     sink.flush(&out);
     Ok(())
 }
 
 fn main(rt: HostRuntime) -> std::io::Result<()> {
-    print(&rt, "plans.bin", false)?;
-    print(&rt, "runs.bin", true)
+    print(&rt, "plans.bin", &|_, file, sink, out| {
+        plans::put_reading(file, sink, out)
+    })?;
+    print(&rt, "runs.bin", &runs::put_run)
 }

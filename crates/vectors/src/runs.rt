@@ -1,140 +1,111 @@
 // The stored runs: a plan and the program's input, printed whole after `=`; or a plan and choices made from a seed, of which
 // `# lines sum` is printed, the digest of the output.
-ghost use Rattle.std.specs.Prelude.{◌≡◌, ◌+◌, ◌-◌};
-
 use crate::stored;
 use printing::Sink;
 use session::Session;
+use sink::Target;
 
 // Choices made from a seed, of so many workers: so many, each of a line below a modulus.
 #[derive(Clone, Copy)]
 struct Made {
     workers: u8,
-    count: u64,
-    seed: u64,
-    modulus: u64,
+    count: u32,
+    seed: u32,
+    modulus: u16,
 }
 
 // The seed after this one, by the rule of 02's practice orders.
-fn next_seed(seed: u64) -> u64 {
-    ((seed % 4294967296) * 1664525 + 1013904223) % 4294967296
+fn next_seed(seed: u32) -> u32 {
+    seed.wrapping_mul(1664525).wrapping_add(1013904223)
 }
 
-// The line that a seed names.
-fn line_of(seed: u64, modulus: u64) -> u8 {
-    let m = modulus % 257;
-    if m == 0 {
-        return 0;
-    }
-    let c = (seed / 65536) % m;
-    (c % 256) as u8
-}
-
-fn wide(x: u8) -> u64 {
-    x as u64
+// The line that a seed names; 0 where the modulus leaves none.
+fn line_of(seed: u32, modulus: u16) -> u8 {
+    let line = (seed / 65536).checked_rem(u32::from(modulus % 257));
+    line.map_or(0, |line| (line % 256) as u8)
 }
 
 // The worker that it names: the line's number mod W; and one time in 16 a number that no worker has.
-fn worker_of(seed: u64, workers: u8, line: u8) -> u8 {
-    let w = wide(workers);
-    let l = wide(line);
+fn worker_of(seed: u32, workers: u8, line: u8) -> u8 {
     if seed / 268435456 == 0 {
-        return ((w % 256 + l % 256) % 256) as u8;
+        return workers.wrapping_add(line);
     }
-    if w == 0 {
-        return 0;
-    }
-    (l % w % 256) as u8
+    line.checked_rem(workers).unwrap_or(0)
 }
 
-// Feeds the stored choices, and then those that are made.
-fn feed(session: Session, choices: &[u8], made: Made, mem: &mut [u16], out: &mut [u8]) -> Session {
-    let mut now = feeding::feed(session, choices, mem, out);
+// Feeds the choices that are made.
+fn feed_made(session: Session, made: Made, mem: &mut [u16], out: &mut [u8]) -> Session {
+    let mut now = session;
     let mut seed = made.seed;
-    let modulus = made.modulus;
-    let workers = made.workers;
-    let mut left = made.count;
-    while left > 0 {
+    for _ in 0..made.count {
         seed = next_seed(seed);
-        let line = line_of(seed, modulus);
-        now = feeding::choose(now, worker_of(seed, workers, line), line, mem, out);
-        left -= 1;
+        let line = line_of(seed, made.modulus);
+        let worker = worker_of(seed, made.workers, line);
+        now = feeding::choose(now, worker, line, mem, out);
     }
     now
 }
 
-// A run of the program.
-fn serve(file: &[u8], workers: u8, choices: &[u8], made: Made, sink: Sink, out: &mut [u8]) -> Sink {
+// A run of the program, its choices fed by the caller.
+fn serve<F: FnOnce(Session, &mut [u16], &mut [u8]) -> Session>(
+    file: &[u8],
+    workers: u8,
+    sink: Sink,
+    out: &mut [u8],
+    feed: F,
+) -> Sink
+    requires { F.IsAlwaysCallable feed }
+{
     let mut mem = [0u16; 32768];
-    let begun = session::begin(file, workers, &mut mem, sink, out);
-    let started = begun.session;
-    if begun.accepted {
-        let fed = feed(started, choices, made, &mut mem, out);
-        return session::close(fed, out);
+    match session::begin(file, workers, &mut mem, sink, out) {
+        Ok(session) => session::close(feed(session, &mut mem, out), out),
+        Err(refused) => refused.sink,
     }
-    started.sink
 }
 
-// The digest of a run whose choices are made.
+// A run whose input is stored: W, then the choices. An absent W reads as the 0 that the buffer begins with.
+fn stored_run(fd: i32, file: &[u8], sink: Sink, out: &mut [u8]) -> Sink {
+    let mut input = io::large_buffer();
+    let size = u32::from_le_bytes(stored::array(fd));
+    let end = stored::bytes(fd, size, &mut input).max(1);
+    let choices = &input[1..end];
+    let sink = sink.put(out, b"=\n");
+    serve(file, input[0], sink, out, |session, mem, out| {
+        feeding::feed(session, choices, mem, out)
+    })
+}
+
+// A run whose choices are made, digested.
 fn digest(file: &[u8], made: Made) -> Sink {
     let mut out = io::large_buffer();
-    let done = serve(file, made.workers, b"", made, Sink::digested(), &mut out);
+    let done = serve(
+        file,
+        made.workers,
+        Sink::digested(),
+        &mut out,
+        |session, mem, out| feed_made(session, made, mem, out),
+    );
     done.flush(&out)
 }
 
-// Where the input ends in its buffer; an absent W reads as the 0 that the buffer begins with.
-fn end_of(got: usize) -> usize
-    ensures { result ≡ 1 + (got - 1) }
-{
-    if got == 0 {
-        return 1;
-    }
-    got
-}
-
-// A run whose input is stored: W, then the choices.
-fn stored_run(fd: i32, file: &[u8], sink: Sink, out: &mut [u8]) -> Sink {
-    let mut input = io::large_buffer();
-    let size = stored::four_bytes(fd);
-    let end = end_of(stored::bytes(fd, size.value, &mut input));
-    let none = Made {
-        workers: 0,
-        count: 0,
-        seed: 0,
-        modulus: 0,
-    };
-    let workers = input[0];
-    serve(
-        file,
-        workers,
-        &input[1..end],
-        none,
-        sink.put(out, b"=\n"),
-        out,
-    )
-}
-
 fn made_run(fd: i32, file: &[u8], sink: Sink, out: &mut [u8]) -> Sink {
-    let workers = stored::byte(fd);
-    let count = stored::four_bytes(fd);
-    let seed = stored::four_bytes(fd);
-    let modulus = stored::two_bytes(fd);
+    let [workers] = stored::array::<1>(fd);
     let made = Made {
-        workers: (workers.value % 256) as u8,
-        count: count.value,
-        seed: seed.value,
-        modulus: modulus.value,
+        workers,
+        count: u32::from_le_bytes(stored::array(fd)),
+        seed: u32::from_le_bytes(stored::array(fd)),
+        modulus: u16::from_le_bytes(stored::array(fd)),
     };
-    let done = digest(file, made);
-    let numbers = [done.lines, done.sum];
-    printing::put_line(sink, out, b"#", &numbers)
+    match digest(file, made).target {
+        Target::Digested(digest) => printing::put_line(sink, out, b"#", &[digest.lines, digest.sum]),
+        Target::StandardOutput => sink,
+    }
 }
 
-// The run that is stored after its plan.
+// The run that is stored after its plan: a byte says of which kind it is.
 pub fn put_run(fd: i32, file: &[u8], sink: Sink, out: &mut [u8]) -> Sink {
-    let kind = stored::byte(fd);
-    if kind.value == 0 {
-        return stored_run(fd, file, sink, out);
+    match stored::array::<1>(fd) {
+        [0] => stored_run(fd, file, sink, out),
+        _ => made_run(fd, file, sink, out),
     }
-    made_run(fd, file, sink, out)
 }
