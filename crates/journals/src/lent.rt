@@ -10,13 +10,7 @@ fn memory() -> [u16; 32770] {
 
 // Whether two memories agree from this index on.
 fn same(a: [u16; 32770], b: [u16; 32770], from: usize) -> bool {
-    let mut same = true;
-    let mut i = from;
-    while i < 32770 {
-        same = same & (a[i] == b[i]);
-        i += 1;
-    }
-    same
+    a.get(from..) == b.get(from..)
 }
 
 // A journal marked with the first so many numbers lent, or all where there are no more.
@@ -27,10 +21,8 @@ fn mark_lent(
     mem: &mut [u16],
     count: usize,
 ) -> Marking {
-    if mem.len() < count {
-        return crate::mark_records(file, workers, records, mem);
-    }
-    crate::mark_records(file, workers, records, &mut mem[..count])
+    let lent = count.min(mem.len());
+    crate::mark_records(file, workers, records, &mut mem[..lent])
 }
 
 // What is said of a journal over a file.
@@ -62,6 +54,6 @@ pub fn beside_choices(name: &[u8], records: [EventRecord; 13], count: usize) {
     report::say(name, crate::mark_records(&plan, 2, records, &mut mem));
     let mut other = memory();
     choices::make(&plan, run::run(), &mut other, count);
-    report::say_memory(b"as the choices leave it", same(mem, other, 0));
+    report::say_memory(b"as the choices leave it", mem == other);
     report::end();
 }

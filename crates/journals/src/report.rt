@@ -7,7 +7,7 @@ const STDOUT: i32 = 1;
 
 fn say_refused(words: &[u8], why: Refusal) {
     io::write_all(STDOUT, words);
-    io::print_decimal(STDOUT, why.number() as u64);
+    io::print_decimal(STDOUT, u64::from(why.number()));
 }
 
 fn say_marking(marking: Marking) {

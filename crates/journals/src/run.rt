@@ -49,41 +49,35 @@ pub fn run() -> [EventRecord; 13] {
     ]
 }
 
-// The event with this index. (Past the end, the last.)
-fn event(i: usize) -> EventRecord {
-    let records = run();
-    if 12 < i {
-        return records[12];
-    }
-    records[i]
-}
-
 // Some records, with another at this index.
-pub fn replaced(records: [EventRecord; 13], i: usize, e: EventRecord) -> [EventRecord; 13] {
-    let mut t = records;
+pub fn replaced(mut records: [EventRecord; 13], i: usize, e: EventRecord) -> [EventRecord; 13] {
     if i < 13 {
-        t[i] = e;
+        records[i] = e;
     }
-    t
+    records
 }
 
 // The run with the event at this index exchanged for the next.
 pub fn exchanged(i: usize) -> [EventRecord; 13] {
-    if 11 < i {
-        return run();
+    let mut records = run();
+    if i < 12 {
+        records.swap(i, i + 1);
     }
-    let first = replaced(run(), i, event(i + 1));
-    replaced(first, i + 1, event(i))
+    records
 }
 
 // The run with its last event a copy of the one at this index.
 pub fn repeated(i: usize) -> [EventRecord; 13] {
-    replaced(run(), 12, event(i))
+    let mut records = run();
+    records[12] = records[i.min(12)];
+    records
 }
 
 // A run with a fourth token, up to where its thirteenth event stands: the line that stopped takes that token.
 pub fn longer() -> [EventRecord; 13] {
-    let first = replaced(run(), 10, started(1, 0, 3, 3, 0));
-    let second = replaced(first, 11, started(0, 1, 0, 2, 1));
-    replaced(second, 12, finished(0, 1, 0, 2, 1))
+    let mut records = run();
+    records[10] = started(1, 0, 3, 3, 0);
+    records[11] = started(0, 1, 0, 2, 1);
+    records[12] = finished(0, 1, 0, 2, 1);
+    records
 }
