@@ -10,7 +10,6 @@ ghost use Rattle.tables.specs.Facts.{left_hold};
 ghost use Rattle.tables.specs.State.{InRange, marks};
 ghost use Rattle.tables.specs.Releasing.{is_held, sifted_from, tally_of, Unwatched, renewed_from, closed_by, moved_by, release_of, released_of, released_memory};
 
-use crate::moving::move_down;
 use crate::watching;
 use facts::left_hold;
 use tables::{
@@ -90,11 +89,11 @@ fn close_part(mem: &mut [u16], part: usize, past: u16, watcher: usize, held: usi
     let mut cell = watcher;
     for _ in 0..n {
         let next = watching::next(mem, past, cell, held).unwrap();
-        move_down(mem, part + cell, part + next, at);
+        mem.copy_within(part + cell..part + next, at);
         at += next - cell;
         cell = next + 1;
     }
-    move_down(mem, part + cell, part + held, at);
+    mem.copy_within(part + cell..part + held, at);
 }
 
 // Marks the tokens in the cells from `from` up to `to` as ready.

@@ -2,7 +2,6 @@
 #![tactic(auto)]
 
 mod in_range;
-mod moving;
 mod watching;
 
 ghost use Rattle.std.specs.Prelude.{◌≡◌};
