@@ -83,7 +83,7 @@ fn run_by(s: Slot, worker: u16) -> bool
     joint::both(s.running, s.worker.0 == worker)
 }
 
-// The walk. (The line's number is counted beside the index: 16-bit numbers are compared eight at a time, an index is not.)
+// The walk. (A line's number is compared as one of 16 bits: such are compared eight at a time, an index is not.)
 pub(crate) fn walk(
     slots: Slots,
     lines: u16,
@@ -97,13 +97,11 @@ pub(crate) fn walk(
 {
     let mut sound = true;
     let mut busy = false;
-    let mut line: u16 = 0;
     for l in 0..SLOTS {
         let slot = slot_at(&slots, l);
-        let used = line < lines;
+        let used = (l as u16) < lines;
         sound = joint::both(slot_sound(slot, used, pipes, tokens, workers), sound);
         busy = joint::either(run_by(slot, worker), busy);
-        line += 1;
     }
     Found { sound, busy }
 }
