@@ -4,6 +4,6 @@
 mod line;
 mod text;
 
-pub use line::put_line;
+pub use line::{put_line, put_number};
 pub use sink::Sink;
 pub use text::{put_answer, put_refusal};

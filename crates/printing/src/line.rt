@@ -8,7 +8,7 @@ use sink::Sink;
 
 // A space and a number.
 #[tactic(auto, unfolding(sink::specs::Sinks::put_each))]
-fn put_number<N: Integer>(sink: Sink, out: &mut [u8], n: N) -> Sink
+pub fn put_number<N: Integer>(sink: Sink, out: &mut [u8], n: N) -> Sink
     ensures { (result, out.new) ≡ put_each (sink, out.old) (spaced (N.text n)) }
 {
     let mut buffer = Buffer::new();
