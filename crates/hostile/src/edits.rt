@@ -6,6 +6,8 @@
 //     M           lent number AT
 //     Z           all of the state is that of a refused opening
 //     !           no damage: line AT is chosen, by worker VALUE
+// (A letter of the file is matched once, in `edited`: an enum between would list each of them twice more.)
+use crate::calls::Choice;
 use crate::report::Run;
 use crate::stored;
 use state::State;
@@ -37,117 +39,64 @@ pub fn zeros() -> State {
     }
 }
 
-fn with_number(s: State, letter: u8, n: u16) -> State {
-    let mut t = s;
+fn put<T: Copy>(all: &mut [T], at: usize, value: T) {
+    if let Some(place) = all.get_mut(at) {
+        *place = value;
+    }
+}
+
+// The run after a choice, by a worker of whom nothing need be right.
+fn chosen(run: Run, worker: u16, line: u16) -> Run {
+    let choice = Choice {
+        run,
+        worker: Worker(worker),
+        line: Line(line),
+        short: false,
+    };
+    choice.made().run
+}
+
+// The run with an edit; one by another letter, or past an array's end, says nothing.
+fn edited(run: Run, letter: u8, at: u16, n: u16) -> Run {
+    let Run { mut state, mut mem } = run;
+    let i = usize::from(at);
     match letter {
-        b'P' => t.pipes = n,
-        b'L' => t.lines = n,
-        b'W' => t.workers = n,
-        b'K' => t.placed = n,
-        b'X' => t.stopped = n == 1,
-        b'N' => t.tables.tokens = n,
-        b'T' => t.tables.count = n,
-        b'F' => t.tables.first = n,
-        b'E' => t.tables.end = n,
-        b'D' => t.tables.held = n,
+        b'P' => state.pipes = n,
+        b'L' => state.lines = n,
+        b'W' => state.workers = n,
+        b'K' => state.placed = n,
+        b'X' => state.stopped = n == 1,
+        b'S' => put(&mut state.serial, i, n == 1),
+        b'C' => put(&mut state.counters, i, (n % 256) as u8),
+        b'p' => put(&mut state.at, i, Pipe(n)),
+        b'r' => put(&mut state.running, i, n == 1),
+        b't' => put(&mut state.token, i, Token(n)),
+        b'k' => put(&mut state.place, i, Place(n)),
+        b'w' => put(&mut state.worker, i, Worker(n)),
+        b'N' => state.tables.tokens = n,
+        b'T' => state.tables.count = n,
+        b'F' => state.tables.first = n,
+        b'E' => state.tables.end = n,
+        b'D' => state.tables.held = n,
+        b'M' => put(&mut mem, i, n),
+        b'Z' => state = zeros(),
+        b'!' => return chosen(run, n, at),
         _ => {}
     }
-    t
-}
-
-fn with_slot(s: State, letter: u8, at: usize, n: u16) -> State {
-    let mut t = s;
-    if at < 32 {
-        match letter {
-            b'p' => t.at[at] = Pipe(n),
-            b'r' => t.running[at] = n == 1,
-            b't' => t.token[at] = Token(n),
-            b'k' => t.place[at] = Place(n),
-            b'w' => t.worker[at] = Worker(n),
-            _ => {}
-        }
-    }
-    t
-}
-
-fn with_flag(s: State, at: usize, flag: bool) -> State {
-    let mut t = s;
-    if at < 16 {
-        t.serial[at] = flag;
-    }
-    t
-}
-
-fn with_counter(s: State, at: usize, n: u8) -> State {
-    let mut t = s;
-    if at < 512 {
-        t.counters[at] = n;
-    }
-    t
-}
-
-fn edited_state(s: State, letter: u8, at: usize, n: u16) -> State {
-    match letter {
-        b'Z' => zeros(),
-        b'S' => with_flag(s, at, n == 1),
-        b'C' => with_counter(s, at, (n % 256) as u8),
-        b'a'..=b'z' => with_slot(s, letter, at, n),
-        _ => with_number(s, letter, n),
-    }
-}
-
-fn edited_memory(mem: [u16; 32768], at: usize, n: u16) -> [u16; 32768] {
-    let mut t = mem;
-    if at < 32768 {
-        t[at] = n;
-    }
-    t
-}
-
-// The run after a choice.
-fn after(run: Run, worker: u16, line: u16) -> Run {
-    let before = run.state;
-    let mut mem = run.mem;
-    let chosen = engine::choose(before, &mut mem, Worker(worker), Line(line));
-    let state = chosen.state;
-    Run {
-        state: state,
-        mem: mem,
-    }
-}
-
-fn edited(run: Run, letter: u8, at: u16, n: u16) -> Run {
-    if letter == b'!' {
-        return after(run, n, at);
-    }
-    let state = run.state;
-    let mem = run.mem;
-    if letter == b'M' {
-        return Run {
-            state: state,
-            mem: edited_memory(mem, at as usize, n),
-        };
-    }
-    Run {
-        state: edited_state(state, letter, at as usize, n),
-        mem: mem,
-    }
+    Run { state, mem }
 }
 
 // The run with the edits of a try, which end with a colon.
 pub fn spoiled(fd: i32, run: Run) -> Run {
     let mut now = run;
-    let mut left: u8 = 16;
-    while left > 0 {
+    for _ in 0..16 {
         let letter = stored::byte(fd);
         if letter == b':' {
-            left = 0;
-        } else {
-            let at = stored::number(fd);
-            let n = stored::number(fd);
-            now = edited(now, letter, at, n);
-            left -= 1;
+            break;
         }
+        let at = stored::number(fd);
+        let n = stored::number(fd);
+        now = edited(now, letter, at, n);
     }
     now
 }

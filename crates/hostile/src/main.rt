@@ -2,6 +2,7 @@
 // What it tries is in data/tries.txt; what it must print is written by hand, from documents 01 and 02 and the ranges of docs/LAYOUT.md.
 #![tactic(auto)]
 
+mod calls;
 mod compare;
 mod edits;
 mod report;
@@ -13,14 +14,11 @@ mod tries;
 use std::fs::File;
 use std::os::fd::AsRawFd;
 
-// Every stored try. (The count of turns is there for the proof that the loop ends.)
+// Every stored try. (A proved loop has to end, and nothing says that a file does.)
 fn each(fd: i32, file: &[u8]) {
-    let mut turns = u64::MAX;
-    while turns > 0 {
-        if tries::next(fd, file) {
-            turns -= 1;
-        } else {
-            turns = 0;
+    for _ in 0..u64::MAX {
+        if !tries::next(fd, file) {
+            break;
         }
     }
 }

@@ -1,7 +1,6 @@
 // What is said of each try: the number that the engine answers (0 for an event), and what became of state and memory.
-use opening::Opening;
 use state::State;
-use vocabulary::Answer;
+use vocabulary::Refusal;
 
 // Standard output's number.
 pub(crate) const STDOUT: i32 = 1;
@@ -21,19 +20,12 @@ pub struct Trial {
     pub memory: bool,
 }
 
-// The number of a refusal; 0 for an event.
-pub fn number_of(answer: Answer) -> u16 {
-    let Answer::Refused(why) = answer else {
-        return 0;
-    };
-    why.number()
-}
-
-pub fn opening_number(answer: Opening) -> u16 {
-    let Opening::Refused(why) = answer else {
-        return 0;
-    };
-    why.number()
+// The number of a refusal; 0 for an event, and for an opening.
+pub fn number_of<T: Copy>(answer: Result<T, Refusal>) -> u16 {
+    match answer {
+        Ok(_) => 0,
+        Err(why) => why.number(),
+    }
 }
 
 pub(crate) fn say_same(same: bool) {
@@ -47,7 +39,7 @@ pub(crate) fn say_same(same: bool) {
 // `n same|changed same|changed`, after some words: the number, then state and memory.
 pub fn say(words: &[u8], trial: Trial) {
     io::write_all(STDOUT, words);
-    io::print_decimal(STDOUT, trial.number as u64);
+    io::print_decimal(STDOUT, u64::from(trial.number));
     say_same(trial.state);
     say_same(trial.memory);
 }
@@ -55,7 +47,7 @@ pub fn say(words: &[u8], trial: Trial) {
 // What an offer answers, and whether its taking is the choice.
 pub fn say_offer(number: u16, alike: bool) {
     io::write_all(STDOUT, b"; offer ");
-    io::print_decimal(STDOUT, number as u64);
+    io::print_decimal(STDOUT, u64::from(number));
     if alike {
         io::write_all(STDOUT, b" and its taking");
     }

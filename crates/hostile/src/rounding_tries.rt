@@ -4,11 +4,11 @@
 // numbers, of which the first counts 65,536s.
 ghost use Rattle.std.specs.Prelude.{◌≤◌};
 
-use crate::report::Run;
+use crate::report::{Run, Trial};
 use crate::{compare, report, stored, takings};
 use rounded::Chosen;
 use rounding::Rounding;
-use vocabulary::{Answer, Event, Line, Pipe, Worker};
+use vocabulary::{Event, Line, Pipe, Worker};
 
 // The rounding of a run, the cells, and how many cells and figures are lent.
 #[derive(Clone, Copy)]
@@ -31,168 +31,98 @@ struct Handed {
 fn wide(fd: i32) -> u32 {
     let high = stored::number(fd);
     let low = stored::number(fd);
-    (high as u32) * 65536 + (low as u32)
+    u32::from(high) * 65536 + u32::from(low)
 }
 
 // What stands before the edits of a try.
 pub fn read(fd: i32) -> Lent {
-    let pipe = stored::number(fd);
+    let pipe = Pipe(stored::number(fd));
     let base = stored::number(fd);
     let sum = wide(fd);
     let many = stored::number(fd);
     let figures = stored::number(fd);
     let cell = wide(fd);
     Lent {
-        rounding: Rounding {
-            pipe: Pipe(pipe),
-            base,
-            sum,
-        },
+        rounding: Rounding { pipe, base, sum },
         cells: [1, 2, cell, 3],
         many,
         figures,
     }
 }
 
-// So many of what there is.
-fn some(all: usize, n: u16) -> usize
-    ensures { result ≤ all }
+// So many of four.
+fn some(n: u16) -> usize
+    ensures { result ≤ 4 }
 {
-    let count = n as usize;
-    if count < all {
-        return count;
-    }
-    all
-}
-
-fn choose(
-    run: rounding::Run,
-    mem: &mut [u16],
-    cells: &[u32],
-    figures: &mut [u32],
-    lent: Lent,
-    worker: u16,
-    line: u16,
-) -> Chosen {
-    let many = some(cells.len(), lent.many);
-    let count = some(figures.len(), lent.figures);
-    rounded::choose_rounded(
-        run,
-        mem,
-        &cells[..many],
-        &mut figures[..count],
-        Worker(worker),
-        Line(line),
-    )
-}
-
-fn offer(
-    run: rounding::Run,
-    mem: &[u16],
-    cells: &[u32],
-    figures: &[u32],
-    lent: Lent,
-    worker: u16,
-    line: u16,
-) -> Answer {
-    let many = some(cells.len(), lent.many);
-    let count = some(figures.len(), lent.figures);
-    rounded::offer_rounded(
-        run,
-        mem,
-        &cells[..many],
-        &figures[..count],
-        Worker(worker),
-        Line(line),
-    )
-}
-
-fn take(
-    run: rounding::Run,
-    mem: &mut [u16],
-    cells: &[u32],
-    figures: &mut [u32],
-    lent: Lent,
-    event: Event,
-) -> Chosen {
-    let many = some(cells.len(), lent.many);
-    let count = some(figures.len(), lent.figures);
-    rounded::take_rounded(run, mem, &cells[..many], &mut figures[..count], event)
-}
-
-fn sevens() -> [u32; 4] {
-    [7u32; 4]
-}
-
-fn all_sevens(a: [u32; 4]) -> bool {
-    (a[0] == 7) & (a[1] == 7) & (a[2] == 7) & (a[3] == 7)
-}
-
-fn same_rounding(a: Rounding, b: Rounding) -> bool {
-    (a.pipe.0 == b.pipe.0) & (a.base == b.base) & (a.sum == b.sum)
+    usize::from(n).min(4)
 }
 
 fn same_run(a: rounding::Run, b: rounding::Run) -> bool {
-    let x = a.state;
-    let y = b.state;
-    let p = a.rounding;
-    let q = b.rounding;
-    compare::same_state(x, y) & same_rounding(p, q)
+    compare::same_state(a.state, b.state)
+        && a.rounding.pipe == b.rounding.pipe
+        && a.rounding.base == b.rounding.base
+        && a.rounding.sum == b.rounding.sum
 }
 
-// What is said of a choice or a taking: its number, then the run, the memory and the figures.
-fn say(words: &[u8], before: rounding::Run, chosen: Chosen, memory: bool, figures: bool) {
-    let answer = chosen.answer;
-    let run = chosen.run;
-    report::say(
-        words,
-        report::Trial {
-            number: report::number_of(answer),
-            state: same_run(run, before),
-            memory: memory,
-        },
-    );
-    report::say_same(figures);
-}
-
-fn say_choice(handed: Handed, worker: u16, line: u16) {
-    let run = handed.run;
+// What is said of a choice or a taking: its number, then the run, the memory and the figures. The figures are lent as sevens.
+fn say<F: FnOnce(rounding::Run, &mut [u16], &[u32], &mut [u32]) -> Chosen>(
+    words: &[u8],
+    handed: Handed,
+    call: F,
+)
+    requires { F.IsAlwaysCallable call }
+{
     let lent = handed.lent;
-    let cells = lent.cells;
-    let before = handed.mem;
     let mut mem = handed.mem;
-    let mut figures = sevens();
-    let chosen = choose(run, &mut mem, &cells, &mut figures, lent, worker, line);
-    let memory = compare::same_memory(mem, before);
-    say(b": ", run, chosen, memory, all_sevens(figures));
+    let mut figures = [7u32; 4];
+    let many = some(lent.many);
+    let count = some(lent.figures);
+    let chosen = call(
+        handed.run,
+        &mut mem,
+        &lent.cells[..many],
+        &mut figures[..count],
+    );
+    let trial = Trial {
+        number: report::number_of(chosen.answer),
+        state: same_run(chosen.run, handed.run),
+        memory: mem == handed.mem,
+    };
+    report::say(words, trial);
+    report::say_same(figures == [7u32; 4]);
 }
 
-fn say_offer(handed: Handed, worker: u16, line: u16) {
-    let run = handed.run;
-    let lent = handed.lent;
-    let cells = lent.cells;
-    let mem = handed.mem;
-    let figures = sevens();
-    let offered = offer(run, &mem, &cells, &figures, lent, worker, line);
-    report::say_offer(report::number_of(offered), false);
+fn say_choice(handed: Handed, worker: Worker, line: Line) {
+    say(b": ", handed, |run, mem, cells, figures| {
+        rounded::choose_rounded(run, mem, cells, figures, worker, line)
+    });
 }
 
 fn say_taking(words: &[u8], handed: Handed, event: Event) {
-    let run = handed.run;
-    let lent = handed.lent;
-    let cells = lent.cells;
-    let before = handed.mem;
-    let mut mem = handed.mem;
-    let mut figures = sevens();
-    let taken = take(run, &mut mem, &cells, &mut figures, lent, event);
-    let memory = compare::same_memory(mem, before);
-    say(words, run, taken, memory, all_sevens(figures));
+    say(words, handed, |run, mem, cells, figures| {
+        rounded::take_rounded(run, mem, cells, figures, event)
+    });
 }
 
-// The choice, its offer, and the takings of two events that are handed in whatever was offered. The figures are lent as sevens.
-pub fn tried(run: Run, lent: Lent, worker: u16, line: u16) {
-    let state = run.state;
-    let mem = run.mem;
+fn say_offer(handed: Handed, worker: Worker, line: Line) {
+    let lent = handed.lent;
+    let figures = [7u32; 4];
+    let many = some(lent.many);
+    let count = some(lent.figures);
+    let offered = rounded::offer_rounded(
+        handed.run,
+        &handed.mem,
+        &lent.cells[..many],
+        &figures[..count],
+        worker,
+        line,
+    );
+    report::say_offer(report::number_of(offered), false);
+}
+
+// The choice, its offer, and the takings of two events that are handed in whatever was offered.
+pub fn tried(run: Run, lent: Lent, worker: Worker, line: Line) {
+    let Run { state, mem } = run;
     let rounding = lent.rounding;
     let handed = Handed {
         run: rounding::Run { state, rounding },

@@ -1,120 +1,47 @@
-// Offers and takings on spoiled runs. An offer is lent its memory to read, so that only its answer is there to be tried.
-use crate::report::{Run, Trial};
-use crate::{compare, report, tries};
-use engine::Chosen;
+// Offers and takings on spoiled runs.
+use crate::calls::Choice;
+use crate::{compare, report};
 use state::State;
-use vocabulary::{Answer, Event, Line, Pipe, Place, Step, Stop, Token, Worker};
+use vocabulary::{Event, Line, Pipe, Place, Step, Stop, Token, Worker};
 
-fn offer(state: State, mem: &[u16], worker: u16, line: u16, short: bool) -> Answer {
-    let count = tries::lent(mem.len(), short);
-    engine::offer(state, &mem[..count], Worker(worker), Line(line))
+// Whether the taking of an event answers and leaves what the choice does, which is an event.
+fn is_taken_alike(choice: Choice, event: Event) -> bool {
+    let made = choice.made();
+    let taken = choice.taken(event);
+    made.answer.is_ok()
+        && made.answer == taken.answer
+        && compare::same_state(made.run.state, taken.run.state)
+        && made.run.mem == taken.run.mem
 }
 
-fn take(state: State, mem: &mut [u16], event: Event, short: bool) -> Chosen {
-    let count = tries::lent(mem.len(), short);
-    engine::take_offered(state, &mut mem[..count], event)
+// The offer, and whether it is an event whose taking is the choice.
+fn say_offered(choice: Choice) {
+    let offered = choice.offered();
+    let alike = offered.is_ok_and(|event| is_taken_alike(choice, event));
+    report::say_offer(report::number_of(offered), alike);
 }
 
-// The taking of an event, whatever was offered.
-fn taking(run: Run, event: Event, short: bool) -> Trial {
-    let state = run.state;
-    let before = run.mem;
-    let mut mem = run.mem;
-    let chosen = take(state, &mut mem, event, short);
-    tries::chosen_trial(state, chosen, compare::same_memory(mem, before))
-}
-
-// Whether the taking of an event answers and leaves what the choice does.
-fn alike(run: Run, worker: u16, line: u16, event: Event, short: bool) -> bool {
-    let state = run.state;
-    let mut one = run.mem;
-    let mut another = run.mem;
-    let chosen = tries::choose(state, &mut one, worker, line, short);
-    let taken = take(state, &mut another, event, short);
-    same_chosen(chosen, taken) & compare::same_memory(one, another)
-}
-
-fn same_chosen(a: Chosen, b: Chosen) -> bool {
-    let one = a.answer;
-    let another = b.answer;
-    let x = a.state;
-    let y = b.state;
-    same_answer(one, another) & compare::same_state(x, y)
-}
-
-fn same_answer(a: Answer, b: Answer) -> bool {
-    match a {
-        Answer::Started(step) => same_event(Event::Started(step), b),
-        Answer::Finished(step) => same_event(Event::Finished(step), b),
-        Answer::Stopped(stop) => same_event(Event::Stopped(stop), b),
-        Answer::Refused(_) => false,
-    }
-}
-
-fn same_event(event: Event, b: Answer) -> bool {
-    let own = event.record();
-    match b {
-        Answer::Started(step) => own.same(Event::Started(step).record()),
-        Answer::Finished(step) => own.same(Event::Finished(step).record()),
-        Answer::Stopped(stop) => own.same(Event::Stopped(stop).record()),
-        Answer::Refused(_) => false,
-    }
-}
-
-// Whether what was offered is an event, whose taking is the choice.
-fn taken_alike(run: Run, worker: u16, line: u16, offered: Answer, short: bool) -> bool {
-    match offered {
-        Answer::Started(step) => alike(run, worker, line, Event::Started(step), short),
-        Answer::Finished(step) => alike(run, worker, line, Event::Finished(step), short),
-        Answer::Stopped(stop) => alike(run, worker, line, Event::Stopped(stop), short),
-        Answer::Refused(_) => false,
-    }
-}
-
-fn say_offered(run: Run, worker: u16, line: u16, short: bool) {
-    let state = run.state;
-    let mem = run.mem;
-    let offered = offer(state, &mem, worker, line, short);
-    report::say_offer(
-        report::number_of(offered),
-        taken_alike(run, worker, line, offered, short),
-    );
-}
-
-pub(crate) fn stop_of(worker: u16, line: u16) -> Event {
-    Event::Stopped(Stop {
-        line: Line(line),
-        worker: Worker(worker),
-    })
+pub(crate) fn stop_of(worker: Worker, line: Line) -> Event {
+    Event::Stopped(Stop { line, worker })
 }
 
 // The finish of what the line's slot holds, whether it runs or not; of zeros for a line that no state has.
-pub(crate) fn finish_of(s: State, worker: u16, line: u16) -> Event {
-    let l = line as usize;
-    let mut pipe = Pipe(0);
-    let mut token = Token(0);
-    let mut place = Place(0);
-    if l < 32 {
-        pipe = s.at[l];
-        token = s.token[l];
-        place = s.place[l];
-    }
+pub(crate) fn finish_of(s: State, worker: Worker, line: Line) -> Event {
+    let l = usize::from(line.0);
     Event::Finished(Step {
-        line: Line(line),
-        pipe,
-        token,
-        place,
-        worker: Worker(worker),
+        line,
+        pipe: s.at.get(l).copied().unwrap_or(Pipe(0)),
+        token: s.token.get(l).copied().unwrap_or(Token(0)),
+        place: s.place.get(l).copied().unwrap_or(Place(0)),
+        worker,
     })
 }
 
 // What is said of the offer and the takings: `; offer n[ and its taking]; stop n same|changed same|changed; finish n ..`.
-pub fn say(run: Run, worker: u16, line: u16, short: bool) {
-    let state = run.state;
-    say_offered(run, worker, line, short);
-    report::say(b"; stop ", taking(run, stop_of(worker, line), short));
-    report::say(
-        b"; finish ",
-        taking(run, finish_of(state, worker, line), short),
-    );
+pub fn say(choice: Choice) {
+    let stop = stop_of(choice.worker, choice.line);
+    let finish = finish_of(choice.run.state, choice.worker, choice.line);
+    say_offered(choice);
+    report::say(b"; stop ", choice.trial(choice.taken(stop)));
+    report::say(b"; finish ", choice.trial(choice.taken(finish)));
 }

@@ -5,129 +5,90 @@
 //     r    a choice of a run with rounding (rounding_tries.rt)
 // In capitals, C and O, with one number too few lent. On the run of each choice its offer is tried too, with the taking of what was
 // offered, and the takings of two events that are handed in whatever was offered (takings.rt).
-ghost use Rattle.std.specs.Prelude.{◌≤◌};
-
+use crate::calls::Choice;
 use crate::report::{Run, Trial};
-use crate::{compare, edits, report, rounding_tries, stored, takings};
-use engine::Chosen;
-use opening::Opened;
-use state::State;
+use crate::{calls, compare, edits, report, rounding_tries, stored, takings};
 use vocabulary::{Line, Worker};
 
-fn memory_of_zeros() -> [u16; 32768] {
-    [0u16; 32768]
+#[derive(Clone, Copy)]
+enum Verb {
+    Choose { short: bool },
+    Open { short: bool },
+    OpenEmpty,
+    ChooseRounded,
 }
 
-fn memory_of_sevens() -> [u16; 32768] {
-    [7u16; 32768]
+// The verb of the next try, if there is one. Any other letter is an `o`.
+fn next_verb(fd: i32) -> Option<Verb> {
+    match stored::byte(fd) {
+        0 => None,
+        b'c' => Some(Verb::Choose { short: false }),
+        b'C' => Some(Verb::Choose { short: true }),
+        b'O' => Some(Verb::Open { short: true }),
+        b'e' => Some(Verb::OpenEmpty),
+        b'r' => Some(Verb::ChooseRounded),
+        _ => Some(Verb::Open { short: false }),
+    }
 }
 
 // The run at opening, with 2 workers.
 fn opened(file: &[u8]) -> Run {
-    let mut mem = memory_of_zeros();
-    let opened = opening::open(file, 2, &mut mem);
-    let state = opened.state;
-    Run {
-        state: state,
-        mem: mem,
-    }
-}
-
-// How many numbers are lent: all, or one too few.
-pub(crate) fn lent(all: usize, short: bool) -> usize
-    ensures { result ≤ all }
-{
-    if short {
-        if 0 < all {
-            return all - 1;
-        }
-    }
-    all
-}
-
-pub(crate) fn choose(state: State, mem: &mut [u16], worker: u16, line: u16, short: bool) -> Chosen {
-    let count = lent(mem.len(), short);
-    engine::choose(state, &mut mem[..count], Worker(worker), Line(line))
-}
-
-fn open(file: &[u8], workers: u16, mem: &mut [u16], short: bool) -> Opened {
-    let count = lent(mem.len(), short);
-    opening::open(file, workers, &mut mem[..count])
-}
-
-pub(crate) fn chosen_trial(before: State, chosen: Chosen, memory: bool) -> Trial {
-    let answer = chosen.answer;
-    let state = chosen.state;
-    Trial {
-        number: report::number_of(answer),
-        state: compare::same_state(state, before),
-        memory: memory,
-    }
-}
-
-fn choice(run: Run, worker: u16, line: u16, short: bool) -> Trial {
-    let state = run.state;
-    let before = run.mem;
-    let mut mem = run.mem;
-    let chosen = choose(state, &mut mem, worker, line, short);
-    chosen_trial(state, chosen, compare::same_memory(mem, before))
-}
-
-fn opened_trial(opened: Opened, memory: bool) -> Trial {
-    let answer = opened.answer;
-    let state = opened.state;
-    Trial {
-        number: report::opening_number(answer),
-        state: compare::same_state(state, edits::zeros()),
-        memory: memory,
-    }
+    let mut mem = [0u16; 32768];
+    let state = opening::open(file, 2, &mut mem).state;
+    Run { state, mem }
 }
 
 // An opening, on a memory of sevens that a refusal leaves as it was, and with a state that is then one of zeros.
 fn opening(file: &[u8], workers: u16, short: bool) -> Trial {
-    let mut mem = memory_of_sevens();
-    let opened = open(file, workers, &mut mem, short);
-    opened_trial(opened, compare::same_memory(mem, memory_of_sevens()))
-}
-
-fn tried(verb: u8, w: u16, n: u16, run: Run, file: &[u8]) -> Trial {
-    match verb {
-        b'c' => choice(run, w, n, false),
-        b'C' => choice(run, w, n, true),
-        b'e' => opening(b"", w, false),
-        _ => opening(file, w, verb == b'O'),
+    let mut mem = [7u16; 32768];
+    let count = calls::lent(mem.len(), short);
+    let opened = opening::open(file, workers, &mut mem[..count]);
+    Trial {
+        number: report::number_of(opened.answer),
+        state: compare::same_state(opened.state, edits::zeros()),
+        memory: mem == [7u16; 32768],
     }
 }
 
-// A try of a run with rounding.
-fn next_rounded(fd: i32, w: u16, n: u16, file: &[u8]) {
-    let lent = rounding_tries::read(fd);
+// The run of a try: at opening, with the try's edits. The try's name is told.
+fn named_run(fd: i32, file: &[u8]) -> Run {
     let run = edits::spoiled(fd, opened(file));
     stored::print_line(fd);
-    rounding_tries::tried(run, lent, w, n);
-    report::end();
+    run
+}
+
+fn say_choice(choice: Choice) {
+    report::say(b": ", choice.trial(choice.made()));
+    takings::say(choice);
+}
+
+// A try of an opening; its edits say nothing.
+fn say_opening(fd: i32, run_file: &[u8], trial: Trial) {
+    named_run(fd, run_file);
+    report::say(b": ", trial);
 }
 
 // The next try, if there is one.
 pub fn next(fd: i32, file: &[u8]) -> bool {
-    let verb = stored::byte(fd);
-    if verb == 0 {
+    let Some(verb) = next_verb(fd) else {
         return false;
-    }
-    let w = stored::number(fd);
-    let n = stored::number(fd);
-    if verb == b'r' {
-        next_rounded(fd, w, n, file);
-        return true;
-    }
-    let run = edits::spoiled(fd, opened(file));
-    let trial = tried(verb, w, n, run, file);
-    stored::print_line(fd);
-    report::say(b": ", trial);
+    };
+    let workers = stored::number(fd);
+    let worker = Worker(workers);
+    let line = Line(stored::number(fd));
     match verb {
-        b'c' => takings::say(run, w, n, false),
-        b'C' => takings::say(run, w, n, true),
-        _ => {}
+        Verb::Choose { short } => say_choice(Choice {
+            run: named_run(fd, file),
+            worker,
+            line,
+            short,
+        }),
+        Verb::Open { short } => say_opening(fd, file, opening(file, workers, short)),
+        Verb::OpenEmpty => say_opening(fd, file, opening(b"", workers, false)),
+        Verb::ChooseRounded => {
+            let lent = rounding_tries::read(fd);
+            rounding_tries::tried(named_run(fd, file), lent, worker, line);
+        }
     }
     report::end();
     true
