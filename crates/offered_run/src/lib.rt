@@ -1,25 +1,33 @@
 // A whole run in one call in which each choice is offered and then made, for programs in other languages: tests/bench/ times it.
 #![tactic(auto)]
 
-mod offered;
-
 ghost use Rattle.std.specs.Prelude.{◌≡◌};
 ghost use Rattle.whole_run.specs.Runs.{run_of};
 
-use opening::Opening;
+use engine::Chosen;
+use state::State;
+use vocabulary::{Line, Worker};
+use whole_run::Way;
+
+// By an offer and then the choice: the answer is the offer's.
+struct OfferedFirst;
+
+impl Way for OfferedFirst {
+    #[tactic(auto, using(crate::proofs::Offering::made_if_as_offered))]
+    fn choose(state: State, mem: &mut [u16], worker: Worker, line: Line) -> Chosen {
+        let answer = engine::offer(state, mem, worker, line);
+        Chosen {
+            answer,
+            ..engine::choose_if(state, mem, worker, line, Ok(()))
+        }
+    }
+}
 
 // Opens the plan of a file for so many workers; each two bytes are a choice, which is offered and then made. Returns the checksum of
 // the offers' answers, or the number of a refused opening.
-#[tactic(auto, using(whole_run::proofs::Summing::accepted_run))]
 pub fn pipeline_run_offered(file: &[u8], workers: u16, choices: &[u8], mem: &mut [u16]) -> u64
     ensures answer { result ≡ (run_of file.now workers choices.now mem.old).0 }
     ensures memory { mem.new ≡ (run_of file.now workers choices.now mem.old).1 }
 {
-    let opened = opening::open(file, workers, mem);
-    let answer = opened.answer;
-    let state = opened.state;
-    match answer {
-        Opening::Refused(why) => why.number() as u64,
-        Opening::Accepted => offered::follow_offered(state, choices, mem),
-    }
+    whole_run::run_by::<OfferedFirst>(file, workers, choices, mem)
 }

@@ -4,7 +4,7 @@ use mathlib.Core.Bool.{Bool, true, false}
 use mathlib.Core.List.{List}
 use Prim.Native.Nat.{ℕ}
 use lib.ListN.{length}
-use Rattle.vocabulary.specs.declared.answer.Answer.{Answer}
+use Rattle.std.specs.Prelude.{Result, Ok, Err}
 use Rattle.vocabulary.specs.declared.event.Event.{Event}
 use Rattle.vocabulary.specs.declared.event.EventRecord.{EventRecord}
 use Rattle.vocabulary.specs.Events.{event_record}
@@ -25,11 +25,10 @@ use Rattle.rounding.specs.declared.run.Run.{Run}
 use Rattle.rounding.specs.Roundings.{rounding_of, rounding_fits}
 use Rattle.rounding.specs.Runs.{run_of}
 use Rattle.rounding.specs.Settlings.{settle_by}
-use Rattle.rounded.specs.declared.leave.Leave.{Leave}
 use Rattle.rounded.specs.declared.Chosen.{Chosen}
 use Rattle.rounded.specs.Leaves.{leave_for, leave_of, told_by}
 use Rattle.rounded.specs.Runs.{lent, chosen_of, joined}
-use Rattle.rounded.proofs.LeaveLaws.{fits_by_lem}
+use Rattle.rounded.proofs.LeaveLaws.{fits_by_lem, with_leave}
 use Rattle.rounded.proofs.ChoiceLaws.{ranged, unranged, fitting, shown_stays, leave_checks, leave_given, leave_refused, whole_choice, whole_taking, taken_refused, offer_told}
 
 module _ (run : Run) (mem cells figures : List ℕ) where
@@ -38,11 +37,11 @@ module _ (run : Run) (mem cells figures : List ℕ) where
 
   -- a call that is refused before anything is asked
   abbrev spoilt : Chosen
-  spoilt = record { answer = Answer.Refused Refusal.Spoiled; run = run }
+  spoilt = record { answer = Err Refusal.Spoiled; run = run }
 
   module _ (w l : ℕ) where
     -- what rounding says, of the rules' run
-    leave_there : {leave : Leave} → leave ≡ leave_for run cells (length figures) l →
+    leave_there : {leave : Result (Unit {0}) Refusal} → leave ≡ leave_for run cells (length figures) l →
         leave ≡ leave_of (fitting memory_source here (lent w l cells figures)) (shown_stays memory_source here (lent w l cells figures))
     unfolding run_of machine_of
     leave_there e =
@@ -58,15 +57,15 @@ module _ (run : Run) (mem cells figures : List ℕ) where
         unfolding run_of machine_of
         in_range = ranged _ _ _ (sym b_is ∙ ok)
 
-        module _ {leave : Leave} (leave-is : leave ≡ leave_for run cells (length figures) l) where
-          pub offered : (own told : Answer) → answer_of own ≡ (choose memory_source (machine_of run.state mem) w l).answer →
+        module _ {leave : Result (Unit {0}) Refusal} (leave-is : leave ≡ leave_for run cells (length figures) l) where
+          pub offered : (own told : Result Event Refusal) → answer_of own ≡ (choose memory_source (machine_of run.state mem) w l).answer →
               answer_of told ≡ told_by leave (answer_of own) → answer_of told ≡ (choose_rounded memory_source here (lent w l cells figures)).answer
           unfolding run_of
           offered own told own_is told_is =
               told_is ∙ ap (told_by leave) own_is ∙ offer_told memory_source here (lent w l cells figures) in_range (leave_there leave-is)
 
           pub chosen : (k : engine.Chosen) (mem' : List ℕ) →
-              chosenBy k mem' ≡ only_if (machine_of run.state mem) leave.given (number_of leave.why) (choose memory_source (machine_of run.state mem) w l) →
+              chosenBy k mem' ≡ with_leave (machine_of run.state mem) leave (choose memory_source (machine_of run.state mem) w l) →
               (c : Chosen) (figures' : List ℕ) →
               chosen_of c mem' figures' ≡ joined (chosenBy k mem') (rounding_of run.rounding) (settle_by (rounding_of run.rounding) (answer_of k.answer) cells figures) →
               chosen_of c mem' figures' ≡ choose_rounded memory_source here (lent w l cells figures)
@@ -84,25 +83,23 @@ module _ (run : Run) (mem cells figures : List ℕ) where
     unfolding chosen_of answer_of run_of machine_of
     spoiled_taking q = sym (taken_refused memory_source here e cells figures n (unranged memory_source here a (sym b_is ∙ q)))
 
-    module _ (ok : b ≡ true) {leave : Leave} (leave-is : leave ≡ leave_for run cells (length figures) e.line)
+    module _ (ok : b ≡ true) {leave : Result (Unit {0}) Refusal} (leave-is : leave ≡ leave_for run cells (length figures) e.line)
         (k : engine.Chosen) (mem' : List ℕ) (c : Chosen) (figures' : List ℕ)
         (c-is : chosen_of c mem' figures' ≡ joined (chosenBy k mem') (rounding_of run.rounding) (settle_by (rounding_of run.rounding) (answer_of k.answer) cells figures)) where
-      pub taken : leave.given ≡ true → chosenBy k mem' ≡ take_record memory_source (machine_of run.state mem) e n →
+      pub taken : {u : Unit {0}} → leave ≡ Ok u → chosenBy k mem' ≡ take_record memory_source (machine_of run.state mem) e n →
           chosen_of c mem' figures' ≡ take_record_rounded memory_source here e cells figures n
       unfolding run_of chosenBy
       taken given k-is =
           c-is ∙ whole_taking memory_source here e cells figures n (in_range e.worker e.line b_is ok)
           (k-is ∙ leave_given memory_source here a (leave_there e.worker e.line leave-is) (as_handed memory_source here e cells figures) n given)
 
-      pub turned_down : leave.given ≡ false →
-          chosenBy k mem' ≡ only_if (machine_of run.state mem) false (number_of leave.why) (choose memory_source (machine_of run.state mem) e.worker e.line) →
+      pub turned_down : {why : Refusal} → leave ≡ Err why →
+          chosenBy k mem' ≡ only_if (machine_of run.state mem) false (number_of why) (choose memory_source (machine_of run.state mem) e.worker e.line) →
           chosen_of c mem' figures' ≡ take_record_rounded memory_source here e cells figures n
       unfolding run_of chosenBy
-      turned_down given k-is =
+      turned_down refused k-is =
           c-is ∙ whole_taking memory_source here e cells figures n (in_range e.worker e.line b_is ok)
-          (k-is ∙
-          ap (λ g. only_if (machine_of run.state mem) g (number_of leave.why) (choose memory_source (machine_of run.state mem) e.worker e.line)) (sym given) ∙
-          leave_refused memory_source here a (leave_there e.worker e.line leave-is) (as_handed memory_source here e cells figures) n given)
+          (k-is ∙ leave_refused memory_source here a (leave_there e.worker e.line leave-is) (as_handed memory_source here e cells figures) n refused)
 
   -- and of an event
   pub takes_event : (e : Event) {r : EventRecord} {x : RoundedChosen tables.State} → r ≡ event_record e →

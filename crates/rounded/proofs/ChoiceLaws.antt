@@ -5,7 +5,10 @@ use mathlib.Core.List.{List}
 use Prim.Native.Nat.{ℕ, ◌<◌}
 use lib.Dec.{leb}
 use borrow.Author.Tests.{leb-false, lt-leb}
+use Rattle.std.specs.Prelude.{Result, Ok, Err, is_ok}
+use Rattle.engine.specs.Taking.{other_of}
 use Rattle.vocabulary.specs.declared.event.EventRecord.{EventRecord}
+use Rattle.vocabulary.specs.declared.refusal.Refusal.{Refusal}
 use Rattle.vocabulary.specs.Refusals.{number_of}
 use Rattle.rules.specs.Lists.{within}
 use Rattle.rules.specs.Sources.{Source}
@@ -24,10 +27,9 @@ use Rattle.rules.proofs.rounding.Offered.{taken_by_checks, join_refused, join_ac
 use Rattle.rounding.specs.Roundings.{rounding_fits}
 use Rattle.rounding.specs.Settlings.{is_known, settle_by}
 use Rattle.rounding.proofs.laws.Ranges.{sound_known}
-use Rattle.rounded.specs.declared.leave.Leave.{Leave}
 use Rattle.rounded.specs.Leaves.{passer_at, leave_of, told_by}
 use Rattle.rounded.specs.Runs.{joined}
-use Rattle.rounded.proofs.LeaveLaws.{choice_passes, leave_once}
+use Rattle.rounded.proofs.LeaveLaws.{choice_passes, with_leave, leave_once}
 
 -- more than 16 pipes
 too_many : (n : ℕ) → 16 < n → within 1 16 n ≡ false
@@ -211,43 +213,42 @@ module _ {X : Type 0} (S : Source X) (r : Run X) (a : Lending) where
       let own : is_refused (plain S r a).answer ≡ false = ap (λ (x : Chosen X). is_refused x.answer) (sym made) ∙ ok in
       ap (λ p. leb (sum_after r.rounding a.cells p) sum_most) (sym (choice_passes S r.rounding r.machine a.choice.worker a.choice.line own))
 
-  module _ {leave : Leave} (leave-is : leave ≡ leave_of (fitting S r a) shown_stays) where
+  module _ {leave : Result (Unit {0}) Refusal} (leave-is : leave ≡ leave_of (fitting S r a) shown_stays) where
     abbrev asked : Chosen X
-    asked = only_if r.machine leave.given (number_of leave.why) (plain S r a)
+    asked = with_leave r.machine leave (plain S r a)
 
     pub leave_checks : asked ≡ checked S r a
     leave_checks =
-        ap (λ v. only_if r.machine v.given (number_of v.why) (plain S r a)) leave-is ∙
+        ap (λ v. with_leave r.machine v (plain S r a)) leave-is ∙
         leave_once r.machine (fitting S r a) shown_stays (plain S r a) ∙
         only_as r.machine shown_stays (staying S r a) 14 fitted shown_stays_lem
 
     -- with leave a taking goes by the choice alone; without, it has the number that rounding gave
     module _ (same : Bool) (n : ℕ) where
-      pub leave_given : leave.given ≡ true → only_if r.machine same n (plain S r a) ≡ only_if r.machine same n (checked S r a)
+      pub leave_given : {u : Unit {0}} → leave ≡ Ok u → only_if r.machine same n (plain S r a) ≡ only_if r.machine same n (checked S r a)
       leave_given e =
-          ap (only_if r.machine same n) (sym (only_same r.machine leave.given (number_of leave.why) (plain S r a) e) ∙ leave_checks)
+          ap (only_if r.machine same n)
+          (sym (only_same r.machine (is_ok leave) (other_of leave) (plain S r a) (ap is_ok e)) ∙ leave_checks)
 
-      asked_refused : leave.given ≡ false → is_refused asked.answer ≡ true
-      asked_refused e = elim (see (is_refused asked.answer)) [
-        | holds d ↦ d
-        | fails d ↦ absurd (never (sym (only_made r.machine leave.given (number_of leave.why) (plain S r a) d).1 ∙ e))
-      ]
-
-      pub leave_refused : leave.given ≡ false → asked ≡ only_if r.machine same n (checked S r a)
-      leave_refused e = sym (only_refused r.machine same n asked (asked_refused e)) ∙ ap (only_if r.machine same n) leave_checks
+      pub leave_refused : {why : Refusal} → leave ≡ Err why → only_if r.machine false (number_of why) (plain S r a) ≡ only_if r.machine same n (checked S r a)
+      unfolding only_if
+      leave_refused {why} e =
+          let refused : is_refused asked.answer ≡ true = rw e (by_test (is_refused (plain S r a).answer) (λ d. rw d d) (λ d. rw d)) in
+          ap (λ v. with_leave r.machine v (plain S r a)) (sym e) ∙ sym (only_refused r.machine same n asked refused) ∙ ap (only_if r.machine same n) leave_checks
 
 -- an offer
 module _ {X : Type 0} (S : Source X) (r : Run X) (a : Lending) where
-  told_asked : (v : Leave) → told_by v (plain S r a).answer ≡ (only_if r.machine v.given (number_of v.why) (plain S r a)).answer
-  unfolding told_by only_if
-  told_asked v = by_test (is_refused (plain S r a).answer) (λ d. rw d) (λ d. by_test v.given (λ e. rw (d, e)) (λ e. rw (d, e)))
+  told_asked : (v : Result (Unit {0}) Refusal) → told_by v (plain S r a).answer ≡ (with_leave r.machine v (plain S r a)).answer
+  unfolding only_if
+  told_asked (Ok u) = by_test (is_refused (plain S r a).answer) (λ d. rw d) (λ d. rw d)
+  told_asked (Err why) = by_test (is_refused (plain S r a).answer) (λ d. rw d) (λ d. rw d)
 
   join_answer : (c : Chosen X) → (join_with r a c).answer ≡ c.answer
   unfolding join_with
   join_answer c = by_test (is_refused c.answer) (λ d. rw d) (λ d. rw d)
 
   pub offer_told : rounding_sound r.machine.pipes r.machine.serial r.rounding ≡ true →
-      {leave : Leave} → leave ≡ leave_of (fitting S r a) (shown_stays S r a) → told_by leave (plain S r a).answer ≡ (choose_rounded S r a).answer
+      {leave : Result (Unit {0}) Refusal} → leave ≡ leave_of (fitting S r a) (shown_stays S r a) → told_by leave (plain S r a).answer ≡ (choose_rounded S r a).answer
   offer_told s {leave} leave-is =
       told_asked leave ∙ ap (λ (c : Chosen X). c.answer) (leave_checks S r a leave-is) ∙ sym (join_answer (checked S r a)) ∙
       ap (λ (c : RoundedChosen X). c.answer) (sym (chosen_by_checks S r a s))

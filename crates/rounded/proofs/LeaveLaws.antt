@@ -5,20 +5,24 @@ use mathlib.Core.List.{List}
 use Prim.Native.Nat.{ℕ, ◌≤◌, ◌<◌}
 use lib.Dec.{leb, ltb, eqb}
 use lib.ListN.{length}
+use Rattle.std.specs.Prelude.{Result, Ok, Err, is_ok}
+use Rattle.vocabulary.specs.declared.refusal.Refusal.{Refusal}
 use borrow.Author.Tests.{lt-ltb, le-ltb, eq-eqb, ne_eqb}
 use Rattle.vocabulary.specs.declared.Slots.{Slots}
 use Rattle.vocabulary.specs.Refusals.{number_of}
+use Rattle.rules.specs.Answers.{answer_of}
+use Rattle.vocabulary.specs.declared.event.Event.{Event}
 use Rattle.rules.specs.Sources.{Source, Taken, Spoiled, Nothing, Took}
 use Rattle.rules.specs.RunState.{Machine, slot_at, slot_of}
-use Rattle.rules.specs.Choices.{Answer, Refused, Chosen, start_first, start_later, start, choose}
+use Rattle.rules.specs.Choices.{Refused, Chosen, start_first, start_later, start, choose}
 use Rattle.rules.specs.Offers.{is_refused, only_if, shown}
+use Rattle.engine.specs.Taking.{other_of}
 use Rattle.rules.specs.Rounding.{sum_most, Rounding, lent_fits, lent_count, NonePasses, passing, sum_after}
 use Rattle.rules.proofs.lists.Tests.{by_test}
 use Rattle.rules.proofs.choices.Offered.{shown_accepted, line_accepted}
 use Rattle.rounding.specs.Settlings.{passer}
 use Rattle.rounding.proofs.laws.Settlings.{by_start, by_stop, by_refusal, passing_finished}
 use Rattle.rounded.specs.Leaves.{passer_at, fits_by, leave_of, told_by}
-use Rattle.rounded.specs.declared.leave.Leave.{Leave}
 
 -- how many are lent
 pub count_none : (tokens : ℕ) (r : Rounding) → r.base ≡ 0 → 0 ≡ lent_count tokens r
@@ -72,12 +76,43 @@ module _ {X : Type 0} (S : Source X) (r : Rounding) (m : Machine X) (w l : ℕ) 
   pub choice_passes : is_refused (choose S m w l).answer ≡ false → passing r (choose S m w l).answer ≡ passer_at r m.slots l
   choice_passes ok = ap (passing r) (shown_accepted S m w l ok) ∙ shown_passes (line_accepted S m w l ok)
 
+-- a choice that is made only with leave
+abbrev pub with_leave : {X : Type 0} → Machine X → Result (Unit {0}) Refusal → Chosen X → Chosen X
+with_leave m leave c = only_if m (is_ok leave) (other_of leave) c
+
 -- the two numbers of rounding, one after the other, or told before the choice
 pub leave_once : {X : Type 0} (m : Machine X) (fits stays : Bool) (c : Chosen X) →
-    only_if m (leave_of fits stays).given (number_of (leave_of fits stays).why) c ≡ only_if m stays 14 (only_if m fits 18 c)
+    with_leave m (leave_of fits stays) c ≡ only_if m stays 14 (only_if m fits 18 c)
 unfolding leave_of only_if
-leave_once m true stays c = by_test (is_refused c.answer) (λ e. rw (e, e)) (λ e. rw (e, e))
+leave_once m true true c = by_test (is_refused c.answer) (λ e. rw (e, e)) (λ e. rw (e, e))
+leave_once m true false c = by_test (is_refused c.answer) (λ e. rw (e, e)) (λ e. rw (e, e))
 leave_once m false stays c = by_test (is_refused c.answer) (λ e. rw (e, e)) (λ e. rw e)
+
+-- leave, case by case
+module _ {fits : Bool} (stays : Bool) where
+  pub leave_unfit : fits ≡ false → Err Refusal.Lent ≡ leave_of fits stays
+  unfolding leave_of
+  leave_unfit e = rw e
+
+  pub leave_past : fits ≡ true → stays ≡ false → Err Refusal.Spoiled ≡ leave_of fits stays
+  unfolding leave_of
+  leave_past e h = rw (e, h)
+
+  pub leave_given : fits ≡ true → stays ≡ true → Ok tt ≡ leave_of fits stays
+  unfolding leave_of
+  leave_given e h = rw (e, h)
+
+-- a refusal of its own comes first
+pub own_told : (leave : Result (Unit {0}) Refusal) (n : ℕ) → Refused n ≡ told_by leave (Refused n)
+own_told (Ok u) n = refl
+own_told (Err why) n = refl
+
+-- an event is refused as rounding says
+pub event_told : (why : Refusal) (e : Event) → Refused (number_of why) ≡ told_by (Err why) (answer_of (Ok e))
+unfolding answer_of
+event_told why (Event.Started s) = refl
+event_told why (Event.Finished s) = refl
+event_told why (Event.Stopped s) = refl
 
 -- T after the line has acted
 module _ (r : Rounding) (cells : List ℕ) (slots : Slots) (l : ℕ) where
@@ -90,17 +125,3 @@ module _ (r : Rounding) (cells : List ℕ) (slots : Slots) (l : ℕ) where
 
   pub stays_out : 32 ≤ l → leb r.sum sum_most ≡ leb (sum_after r cells (passer_at r slots l)) sum_most
   stays_out h = ap (λ p. leb (sum_after r cells p) sum_most) (sym (passer_out r slots l h))
-
--- what an offer comes to
-module _ (leave : Leave) (own : Answer) where
-  pub told_given : leave.given ≡ true → own ≡ told_by leave own
-  unfolding told_by
-  told_given e = by_test (is_refused own) (λ d. rw d) (λ d. rw (d, e))
-
-  pub told_own : is_refused own ≡ true → own ≡ told_by leave own
-  unfolding told_by
-  told_own d = rw d
-
-  pub told_other : is_refused own ≡ false → leave.given ≡ false → Refused (number_of leave.why) ≡ told_by leave own
-  unfolding told_by
-  told_other d e = rw (d, e)

@@ -13,17 +13,16 @@ ghost use Rattle.engine.specs.Machines.{chosen_of as chosen_by};
 ghost use Rattle.rounding.specs.Roundings.{rounding_of};
 ghost use Rattle.rounding.specs.Settlings.{settle_by};
 ghost use Rattle.rounding.specs.Runs.{run_of};
-ghost use Rattle.rounded.specs.Leaves.{leave_for};
 ghost use Rattle.rounded.specs.Runs.{lent, chosen_of, joined};
 
-use leave::Leave;
-use rounding::{Rounding, Run, Settled};
-use vocabulary::{Answer, Event, EventRecord, Line, Refusal, Worker};
+use leave::leave_for;
+use rounding::{Rounding, Run};
+use vocabulary::{Event, EventRecord, Line, Refusal, Worker};
 
-// What a choice returns: its answer, and the run after it.
+// What a choice returns: its answer, and the run after it. (A type of its own: the theorems of rounding_demands speak of `answer` and `run`.)
 #[derive(Clone, Copy)]
 pub struct Chosen {
-    pub answer: Answer,
+    pub answer: Result<Event, Refusal>,
     pub run: Run,
 }
 
@@ -34,33 +33,18 @@ fn settled(rounding: Rounding, chosen: engine::Chosen, cells: &[u32], figures: &
         (settle_by (rounding_of rounding) (answer_of chosen.answer) cells.now figures.old) }
 {
     let answer = chosen.answer;
-    let state = chosen.state;
-    let mut after = rounding;
-    match rounding::settle(rounding, answer, cells, figures) {
-        Settled::Done(next) => after = next,
-        Settled::Spoiled => {}
-    }
+    let after = rounding::settle(rounding, answer, cells, figures).unwrap_or(rounding);
     Chosen {
         answer,
         run: Run {
-            state,
+            state: chosen.state,
             rounding: after,
         },
     }
 }
 
-// What rounding says of a choice of this line before it is made.
-fn leave_for(run: Run, cells: &[u32], figures: usize, line: Line) -> Leave
-    ensures { result ≡ leave_for run cells.now figures line.0 }
-{
-    let rounding = run.rounding;
-    let state = run.state;
-    let fits = leave::fits(rounding, state.tables.tokens, cells, figures);
-    let stays = leave::stays(rounding, state, cells, line);
-    leave::leave_of(fits, stays)
-}
-
 // A choice of a run with its rounding, with the cells and figures that are lent to it: T and a token's figure change where its cell passes.
+// (What is lent stays three parameters: `mem.new` and `figures.new` of these clauses are no fields of a struct that holds `&mut`.)
 #[tactic(auto, using(crate::proofs::Calls::spoiled_choice, crate::proofs::Calls::chosen))]
 pub fn choose_rounded(
     run: Run,
@@ -77,15 +61,12 @@ pub fn choose_rounded(
     let serial = run.state.serial;
     if !rounding::in_range(rounding, run.state.pipes, &serial) {
         return Chosen {
-            answer: Answer::Refused(Refusal::Spoiled),
+            answer: Err(Refusal::Spoiled),
             run,
         };
     }
-    let many = figures.len();
-    let leave = leave_for(run, cells, many, line);
-    let why = leave.why;
-    let state = run.state;
-    let chosen = engine::choose_if(state, mem, worker, line, leave.given, why);
+    let leave = leave_for(run, cells, figures.len(), line);
+    let chosen = engine::choose_if(run.state, mem, worker, line, leave);
     settled(rounding, chosen, cells, figures)
 }
 
@@ -98,19 +79,18 @@ pub fn offer_rounded(
     figures: &[u32],
     worker: Worker,
     line: Line,
-) -> Answer
+) -> Result<Event, Refusal>
     ensures { answer_of result ≡
         offer_rounded memory_source (run_of run mem.now) (lent worker.0 line.0 cells.now figures.now) }
 {
     let rounding = run.rounding;
     let state = run.state;
     if !rounding::in_range(rounding, state.pipes, &state.serial) {
-        return Answer::Refused(Refusal::Spoiled);
+        return Err(Refusal::Spoiled);
     }
-    let many = figures.len();
-    let leave = leave_for(run, cells, many, line);
-    let own = engine::offer(state, mem, worker, line);
-    leave.answer(own)
+    let event = engine::offer(state, mem, worker, line)?;
+    leave_for(run, cells, figures.len(), line)?;
+    Ok(event)
 }
 
 // The choice that a record names, made only if its event is the record's, and refused with `other` where it is another; what rounding has
@@ -131,21 +111,18 @@ fn take_record(
     let state = run.state;
     if !rounding::in_range(rounding, state.pipes, &state.serial) {
         return Chosen {
-            answer: Answer::Refused(Refusal::Spoiled),
+            answer: Err(Refusal::Spoiled),
             run,
         };
     }
     let worker = Worker(wanted.worker);
     let line = Line(wanted.line);
-    let many = figures.len();
-    let leave = leave_for(run, cells, many, line);
-    if leave.given {
-        let taken = engine::take_record(state, mem, wanted, other);
-        return settled(rounding, taken, cells, figures);
+    if let Err(why) = leave_for(run, cells, figures.len(), line) {
+        let refused = engine::choose_if(state, mem, worker, line, Err(why));
+        return settled(rounding, refused, cells, figures);
     }
-    let why = leave.why;
-    let refused = engine::choose_if(state, mem, worker, line, false, why);
-    settled(rounding, refused, cells, figures)
+    let taken = engine::take_record(state, mem, wanted, other);
+    settled(rounding, taken, cells, figures)
 }
 
 // Takes an event that was offered, if it is still what its line would do.
@@ -159,6 +136,12 @@ pub fn take_rounded(
     ensures { chosen_of result mem.new figures.new ≡
         take_rounded memory_source (run_of run mem.old) event cells.now figures.old }
 {
-    let wanted = event.record();
-    take_record(run, mem, cells, figures, wanted, Refusal::OtherEvent)
+    take_record(
+        run,
+        mem,
+        cells,
+        figures,
+        event.record(),
+        Refusal::OtherEvent,
+    )
 }

@@ -3,12 +3,11 @@ use mathlib.Core.Path.{◌≡◌, refl, sym, ap, ◌∙◌}
 use mathlib.Core.Bool.{Bool}
 use mathlib.Core.List.{List}
 use Prim.Native.Nat.{ℕ}
-use native.Mathlib.Omega.{arith}
 use lib.Dec.{leb}
 use Rattle.vocabulary.specs.declared.refusal.Refusal.{Refusal}
+use Rattle.vocabulary.specs.Refusals.{number_of}
 use Rattle.rules.specs.Choices.{opened}
-use Rattle.rules.specs.Rounding.{is_base, is_rounding_pipe, lent_fits, OpenedRounding, TurnedDown, open_rounding}
-use Rattle.rules.specs.Rounding as paper
+use Rattle.rules.specs.Rounding.{is_base, is_rounding_pipe, lent_fits, OpenedRounding, open_rounding}
 use Rattle.rules.proofs.lists.Tests.{by_test}
 use Rattle.fields.specs.Bytes.{Bytes}
 use Rattle.plan.specs.Plan.{Plan, Valid, encode}
@@ -18,13 +17,10 @@ use Rattle.state.specs.declared.State.{State}
 use Rattle.loading.specs.Plans.{pipeline_of}
 use Rattle.loading.specs.Loading.{load_of}
 use Rattle.loading.proofs.loading.LoadCases.{loaded_read}
-use Rattle.opening.specs.declared.Opening.{Opening}
+use Rattle.std.specs.Prelude.{Result, Ok, Err}
 use Rattle.opening.specs.declared.Opened as plain
-use Rattle.opening.specs.Opened.{refused_with, opened_with, opened_by, open_of}
+use Rattle.opening.specs.Opened.{opened_with, opened_by, open_of, refused_with}
 use Rattle.rounding.specs.declared.Rounding.{Rounding}
-use Rattle.rounding.specs.declared.run.Run.{Run}
-use Rattle.rounding.specs.declared.opening.Opening as rounding
-use Rattle.rounding.specs.Runs.{without_rounding}
 use Rattle.rounding.specs.Openings.{opened_of}
 use Rattle.rounding.specs.Openings as checks
 use Rattle.rounding.proofs.laws.Openings.{opens_as}
@@ -33,31 +29,31 @@ use Rattle.rounded_opening.specs.RoundedOpenings.{refusal_of, RoundedOpening, re
 use Rattle.rounded_opening.specs.RoundedOpenings.{open_rounded_as, open_rounded_of}
 
 -- what an opening's answer tells of the loading
-pub refused_load : (o : Outcome) (workers : ℕ) (m : List ℕ) (why : Refusal) → (opened_by o workers m).answer ≡ Opening.Refused why → o ≡ refused why
+pub refused_load : (o : Outcome) (workers : ℕ) (m : List ℕ) (why : Refusal) → (opened_by o workers m).answer ≡ Err why → o ≡ refused why
 unfolding opened_by opened_with refused_with
 refused_load (refused r) workers m why e = cc
-refused_load (accepted p) workers m why e = let z : ◌≡◌ {A = ℕ} 0 1 = cc in absurd (omega arith)
+refused_load (accepted p) workers m why e = cc
 
-pub accepted_load : (o : Outcome) (workers : ℕ) (m : List ℕ) → (opened_by o workers m).answer ≡ Opening.Accepted → (p : Plan) × (o ≡ accepted p)
+pub accepted_load : (o : Outcome) (workers : ℕ) (m : List ℕ) → (opened_by o workers m).answer ≡ Ok tt → (p : Plan) × (o ≡ accepted p)
 unfolding opened_by opened_with refused_with
-accepted_load (refused r) workers m e = let z : ◌≡◌ {A = ℕ} 0 1 = cc in absurd (omega arith)
+accepted_load (refused r) workers m e = cc
 accepted_load (accepted p) workers m e = (p, refl)
 
--- a rounding that is turned down leaves the figures
-keeps : (pipe base pipes : ℕ) (serial : List Bool) (tokens : ℕ) (cells figures : List ℕ) (n : ℕ) →
+-- a rounding that is turned down leaves the figures, and its number tells why
+keeps : (pipe base pipes : ℕ) (serial : List Bool) (tokens : ℕ) (cells figures : List ℕ) (why : Refusal) →
     let o = checks.open_of pipe base pipes serial tokens cells figures in
-    opened_of o.0 o.1 ≡ TurnedDown n → o.1 ≡ figures
-unfolding checks.open_of
-keeps pipe base pipes serial tokens cells figures n e =
+    o.0 ≡ Err why → (o.1 ≡ figures) × (refusal_of (number_of why) ≡ why)
+unfolding checks.open_of refusal_of
+keeps pipe base pipes serial tokens cells figures why e =
     by_test (leb pipes 16)
     (λ few. by_test (is_rounding_pipe pipes serial pipe)
     (λ p. by_test (is_base base)
     (λ b. by_test (lent_fits tokens cells figures)
-    (λ f. let q : paper.Opens _ _ ≡ TurnedDown n = rw (few, p, b, f) at e in let z : ◌≡◌ {A = ℕ} 0 1 = cc in absurd (omega arith))
-    (λ f. rw (few, p, b, f)))
-    (λ b. rw (few, p, b)))
-    (λ p. rw (few, p)))
-    (λ many. rw many)
+    (λ f. let q : Ok _ ≡ Err why = rw (few, p, b, f) at e in cc)
+    (λ f. let q : Err Refusal.Lent ≡ Err why = rw (few, p, b, f) at e in let w : why ≡ Refusal.Lent = cc in rw (w, few, p, b, f) (refl, refl)))
+    (λ b. let q : Err Refusal.Base ≡ Err why = rw (few, p, b) at e in let w : why ≡ Refusal.Base = cc in rw (w, few, p, b) (refl, refl)))
+    (λ p. let q : Err Refusal.RoundingPipe ≡ Err why = rw (few, p) at e in let w : why ≡ Refusal.RoundingPipe = cc in rw (w, few, p) (refl, refl)))
+    (λ many. let q : Err Refusal.RoundingPipe ≡ Err why = rw many at e in let w : why ≡ Refusal.RoundingPipe = cc in rw (w, many) (refl, refl))
 
 module _ (file : List ℕ) (workers pipe base : ℕ) (m cells figures : List ℕ) where
   abbrev due : RoundedOpening
@@ -92,25 +88,19 @@ module _ (file : List ℕ) (workers pipe base : ℕ) (m cells figures : List ℕ
 
   -- where an opening without rounding returns this
   module _ {first : plain.Opened} (first_is : first ≡ (open_of file workers m).0) where
-    pub refuses : (why : Refusal) → first.answer ≡ Opening.Refused why → {run : Run} → run ≡ without_rounding first.state →
-        Gives (record { answer = first.answer; run = run }) m figures
-    unfolding refused_rounded opened_by refused_with
-    refuses why e run_is =
+    pub refuses : {why : Refusal} → first.answer ≡ Err why → {r : Opened} → r ≡ refused_rounded why → Gives r m figures
+    refuses {why} e r-is =
         let is = refused_load (load_of file workers m).0 workers m why (ap (λ (o : plain.Opened). o.answer) (sym first_is) ∙ e) in
-        let zeros : first ≡ refused_with why = first_is ∙ ap (λ (o : Outcome). opened_by o workers m) is in
-        by_whole (due_refused why is)
-        (ap {B = Opened} (λ (run : Run). record { answer = first.answer; run = run }) run_is ∙
-        ap {B = Opened} (λ (o : plain.Opened). record { answer = o.answer; run = without_rounding o.state }) zeros)
-        refl refl
+        by_whole (due_refused why is) r-is refl refl
 
     -- and is accepted, and the checks for rounding return and leave this
-    module _ (bytes : Bytes file) (yes : first.answer ≡ Opening.Accepted) {o : rounding.Opening} {left : List ℕ}
+    module _ (bytes : Bytes file) (yes : first.answer ≡ Ok tt) {o : Result Rounding Refusal} {left : List ℕ}
         (o_is : o ≡ (checks.open_of pipe base first.state.pipes first.state.serial first.state.tables.tokens cells figures).0)
         (left_is : left ≡ (checks.open_of pipe base first.state.pipes first.state.serial first.state.tables.tokens cells figures).1) where
       loaded : (p : Plan) × ((load_of file workers m).0 ≡ accepted p)
       loaded = accepted_load (load_of file workers m).0 workers m (ap (λ (o : plain.Opened). o.answer) (sym first_is) ∙ yes)
 
-      abbrev checks_of : State → rounding.Opening × List ℕ
+      abbrev checks_of : State → Result Rounding Refusal × List ℕ
       checks_of s = checks.open_of pipe base s.pipes s.serial s.tables.tokens cells figures
 
       state_is : first.state ≡ (opened_with loaded.0 workers m).state
@@ -124,7 +114,7 @@ module _ (file : List ℕ) (workers pipe base : ℕ) (m cells figures : List ℕ
       opens_so : opened_of o left ≡ open_rounding (pipeline_of loaded.0) pipe base cells figures
       unfolding opened_with opened
       opens_so =
-          ap (λ (x : rounding.Opening × List ℕ). opened_of x.0 x.1) (returned ∙ ap checks_of state_is) ∙
+          ap (λ (x : Result Rounding Refusal × List ℕ). opened_of x.0 x.1) (returned ∙ ap checks_of state_is) ∙
           opens_as (pipeline_of loaded.0) pipe base cells figures (plan_valid bytes loaded.0 loaded.1).0.pipes
 
       due_so : due ≡ rounded_by (opened_of o left) (open_of file workers m) m figures
@@ -133,32 +123,18 @@ module _ (file : List ℕ) (workers pipe base : ℕ) (m cells figures : List ℕ
           ap (λ (x : OpenedRounding). rounded_by x (open_of file workers m) m figures) (sym opens_so)
 
       -- 16, 17, 18
-      down : (n : ℕ) → opened_of o left ≡ TurnedDown n → {r : Opened} → r ≡ refused_rounded (refusal_of n) → Gives r m left
+      pub turned : {why : Refusal} → o ≡ Err why → {r : Opened} → r ≡ refused_rounded why → Gives r m left
       unfolding rounded_by
-      down n e r-is =
-          let same : opened_of (checks_of first.state).0 (checks_of first.state).1 ≡ TurnedDown n =
-          sym (ap (λ (x : rounding.Opening × List ℕ). opened_of x.0 x.1) returned) ∙ e in
-          by_whole (due_so ∙ ap (λ (x : OpenedRounding). rounded_by x (open_of file workers m) m figures) e) r-is refl
-          (left_is ∙ keeps pipe base first.state.pipes first.state.serial first.state.tables.tokens cells figures n same)
-
-      pub no_pipe : o ≡ rounding.Opening.NoPipe → {r : Opened} → r ≡ refused_rounded Refusal.RoundingPipe → Gives r m left
-      unfolding refusal_of
-      no_pipe e = down 16 (ap (λ (x : rounding.Opening). opened_of x left) e)
-
-      pub no_base : o ≡ rounding.Opening.NoBase → {r : Opened} → r ≡ refused_rounded Refusal.Base → Gives r m left
-      unfolding refusal_of
-      no_base e = down 17 (ap (λ (x : rounding.Opening). opened_of x left) e)
-
-      pub unfit : o ≡ rounding.Opening.Unfit → {r : Opened} → r ≡ refused_rounded Refusal.Lent → Gives r m left
-      unfolding refusal_of
-      unfit e = down 18 (ap (λ (x : rounding.Opening). opened_of x left) e)
+      turned {why} e r-is =
+          let k = keeps pipe base first.state.pipes first.state.serial first.state.tables.tokens cells figures why (sym o_is ∙ e) in
+          by_whole (due_so ∙ ap (λ x. rounded_by (opened_of x left) (open_of file workers m) m figures) e) (r-is ∙ ap refused_rounded (sym k.1)) refl (left_is ∙ k.0)
 
       -- else the run
-      pub accepts : (r : Rounding) → o ≡ rounding.Opening.Opens r → {now : plain.Opened} → now ≡ (open_of file workers m).0 →
+      pub accepts : (r : Rounding) → o ≡ Ok r → {now : plain.Opened} → now ≡ (open_of file workers m).0 →
           {m' : List ℕ} → m' ≡ (open_of file workers m).1 →
           Gives (record { answer = now.answer; run = record { state = now.state; rounding = r } }) m' left
       unfolding rounded_by
       accepts r e now-is m-is =
-          by_whole (due_so ∙ ap (λ (x : rounding.Opening). rounded_by (opened_of x left) (open_of file workers m) m figures) e)
+          by_whole (due_so ∙ ap (λ (x : Result Rounding Refusal). rounded_by (opened_of x left) (open_of file workers m) m figures) e)
           (ap {B = Opened} (λ (o : plain.Opened). record { answer = o.answer; run = record { state = o.state; rounding = r } }) now-is)
           m-is refl

@@ -4,7 +4,6 @@ use mathlib.Core.Logic.{◌↔◌}
 use mathlib.Core.Bool.{true}
 use mathlib.Core.List.{List}
 use Prim.Native.Nat.{ℕ, ◌≤◌}
-use native.Mathlib.Omega.{arith}
 use borrow.Author.Tests.{eq-eqb, le-leb}
 use lib.ListN.{length, replicate, length-replicate}
 use Rattle.vocabulary.specs.declared.refusal.Refusal.{Refusal}
@@ -27,7 +26,7 @@ use Rattle.loading.specs.Plans.{pipeline_of}
 use Rattle.loading.specs.Layout.{laid_out}
 use Rattle.loading.specs.Loading.{load_as, load_of}
 use Rattle.loading.proofs.loading.LoadCases.{turned_down, laid, loading}
-use Rattle.opening.specs.declared.Opening.{Opening}
+use Rattle.std.specs.Prelude.{Result, Ok, Err}
 use Rattle.opening.specs.Opened.{opened_with, opened_by, open_of}
 use Rattle.rounding.specs.Runs.{run_of}
 use Rattle.rounded_opening.specs.RoundedOpenings.{rounding_with, refusal_of, RoundedOpening, refused_rounded, refuse_rounded, rounded_by, open_rounded_of}
@@ -49,7 +48,7 @@ numbered plan pipe base cells figures n e =
     by_test (is_rounding_pipe plan.pipes plan.serial pipe)
     (λ p. by_test (is_base base)
     (λ b. by_test (lent_fits plan.tokens cells figures)
-    (λ f. let q : Opens _ _ ≡ TurnedDown n = rw (p, b, f) at e in let z : ◌≡◌ {A = ℕ} 0 1 = cc in absurd (omega arith))
+    (λ f. let q : Opens _ _ ≡ TurnedDown n = rw (p, b, f) at e in cc)
     (λ f. let q : TurnedDown 18 ≡ TurnedDown n = rw (p, b, f) at e in let n-is : n ≡ 18 = cc in rw n-is))
     (λ b. let q : TurnedDown 17 ≡ TurnedDown n = rw (p, b) at e in let n-is : n ≡ 17 = cc in rw n-is))
     (λ p. let q : TurnedDown 16 ≡ TurnedDown n = rw p at e in let n-is : n ≡ 16 = cc in rw n-is)
@@ -64,9 +63,9 @@ passed plan pipe base cells figures r cleared e =
     (λ p. by_test (is_base base)
     (λ b. by_test (lent_fits plan.tokens cells figures)
     (λ f. (p, b, f))
-    (λ f. let q : TurnedDown 18 ≡ Opens r cleared = rw (p, b, f) at e in let z : ◌≡◌ {A = ℕ} 0 1 = cc in absurd (omega arith)))
-    (λ b. let q : TurnedDown 17 ≡ Opens r cleared = rw (p, b) at e in let z : ◌≡◌ {A = ℕ} 0 1 = cc in absurd (omega arith)))
-    (λ p. let q : TurnedDown 16 ≡ Opens r cleared = rw p at e in let z : ◌≡◌ {A = ℕ} 0 1 = cc in absurd (omega arith))
+    (λ f. let q : TurnedDown 18 ≡ Opens r cleared = rw (p, b, f) at e in cc))
+    (λ b. let q : TurnedDown 17 ≡ Opens r cleared = rw (p, b) at e in cc))
+    (λ p. let q : TurnedDown 16 ≡ Opens r cleared = rw p at e in cc)
 
 -- a rounding opens, or it does not
 data Comes (x : OpenedRounding) : Type 0 where
@@ -100,7 +99,7 @@ module _ (file : List ℕ) (workers pipe base : ℕ) (m cells figures : List ℕ
 
   accepts : (p : Plan) → read_of file ≡ accepted p → WorkersInRange workers → 32768 ≤ length m →
       is_rounding_pipe (pipeline_of p).pipes (pipeline_of p).serial pipe ≡ true → is_base base ≡ true → lent_fits p.tokens cells figures ≡ true →
-      due.returned.answer ≡ Opening.Accepted
+      due.returned.answer ≡ Ok tt
   unfolding load_as within open_rounding opened_with
   accepts p read manned enough serial known fits =
       ap (λ (o : RoundedOpening). o.returned.answer)
@@ -125,32 +124,32 @@ module _ (file : List ℕ) (workers pipe base : ℕ) (m cells figures : List ℕ
     ]
   ]
 
-  abbrev answer_in : RoundedOpening → Opening
+  abbrev answer_in : RoundedOpening → Result (Unit {0}) Refusal
   answer_in o = o.returned.answer
 
   -- a refused opening writes nothing, and returns a state of zeros without rounding
-  pub refused_rounded_lem : (why : Refusal) → due.returned.answer ≡ Opening.Refused why → due ≡ refuse_rounded why m figures
+  pub refused_rounded_lem : (why : Refusal) → due.returned.answer ≡ Err why → due ≡ refuse_rounded why m figures
   unfolding refused_rounded opened_with
   refused_rounded_lem why e = elim case [
     | turned was is ↦
-        let q : Opening.Refused was ≡ Opening.Refused why = sym (ap answer_in is) ∙ e in
+        let q : Err was ≡ Err why = sym (ap answer_in is) ∙ e in
         let same : was ≡ why = cc in
         is ∙ ap (λ (r : Refusal). refuse_rounded r m figures) same
     | opening p read manned enough r cleared o is ↦
-        let q : Opening.Accepted ≡ Opening.Refused why = sym (ap answer_in is) ∙ e in let z : ◌≡◌ {A = ℕ} 0 1 = cc in absurd (omega arith)
+        let q : Ok tt ≡ Err why = sym (ap answer_in is) ∙ e in cc
   ]
 
   -- what an opening without rounding is refused with comes before 16 to 18
-  pub refused_first : (why : Refusal) → (open_of file workers m).0.answer ≡ Opening.Refused why → due ≡ refuse_rounded why m figures
+  pub refused_first : (why : Refusal) → (open_of file workers m).0.answer ≡ Err why → due ≡ refuse_rounded why m figures
   refused_first why e = due_refused file workers pipe base m cells figures why (refused_load (load_of file workers m).0 workers m why e)
 
   module _ (bytes : Bytes file) where
     -- an accepted opening is that of a valid plan, and its run is the rules' at opening
-    pub opened_rounded_lem : due.returned.answer ≡ Opening.Accepted → OpenedRounded file workers pipe base m cells figures due
+    pub opened_rounded_lem : due.returned.answer ≡ Ok tt → OpenedRounded file workers pipe base m cells figures due
     unfolding refused_rounded opened_with opened machine_of run_of
     opened_rounded_lem e = elim case [
       | turned was is ↦
-          let q : Opening.Refused was ≡ Opening.Accepted = sym (ap answer_in is) ∙ e in let z : ◌≡◌ {A = ℕ} 0 1 = cc in absurd (omega arith)
+          let q : Err was ≡ Ok tt = sym (ap answer_in is) ∙ e in cc
       | opening p read manned enough r cleared o is ↦
           let (valid, file_is) = (read_exactly file bytes p).0 read in
           let w = opens_with (pipeline_of p) pipe base cells figures r cleared o in
@@ -173,7 +172,7 @@ module _ (file : List ℕ) (workers pipe base : ℕ) (m cells figures : List ℕ
 
     -- an opening is accepted exactly if the file is that of a valid plan, W is 1 to 32, enough numbers are lent, the pipe is a serial one
     -- of the plan, the base is 3 or 5, there are N cells and N figures, and no cell is too large
-    pub opens_rounded_exactly : (due.returned.answer ≡ Opening.Accepted) ↔ (
+    pub opens_rounded_exactly : (due.returned.answer ≡ Ok tt) ↔ (
         (p : Plan) × Valid p × (file ≡ encode p) × WorkersInRange workers × (32768 ≤ length m) ×
         (is_rounding_pipe (pipeline_of p).pipes (pipeline_of p).serial pipe ≡ true) × (is_base base ≡ true) × (lent_fits p.tokens cells figures ≡ true)
         )
@@ -181,7 +180,7 @@ module _ (file : List ℕ) (workers pipe base : ℕ) (m cells figures : List ℕ
     opens_rounded_exactly = (
       λ e. elim case [
         | turned was is ↦
-            let q : Opening.Refused was ≡ Opening.Accepted = sym (ap answer_in is) ∙ e in let z : ◌≡◌ {A = ℕ} 0 1 = cc in absurd (omega arith)
+            let q : Err was ≡ Ok tt = sym (ap answer_in is) ∙ e in cc
         | opening p read manned enough r cleared o is ↦
             let (valid, file_is) = (read_exactly file bytes p).0 read in
             let (serial, known, fits) = passed (pipeline_of p) pipe base cells figures r cleared o in

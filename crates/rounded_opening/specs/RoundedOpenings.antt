@@ -1,5 +1,5 @@
 -- Opening a run with rounding: its answer, the run, the memory and the figures.
-use Rattle.std.specs.Prelude.{List, ℕ, eqb}
+use Rattle.std.specs.Prelude.{List, Err, ℕ, eqb}
 use Rattle.vocabulary.specs.declared.refusal.Refusal.{Refusal}
 use Rattle.rules.specs.Lists.{if}
 use Rattle.rules.specs.Rounding.{OpenedRounding, TurnedDown, Opens, open_rounding}
@@ -7,7 +7,6 @@ use Rattle.rules.specs.Rounding as paper
 use Rattle.plan.specs.Reading.{Outcome, accepted, refused}
 use Rattle.loading.specs.Plans.{pipeline_of}
 use Rattle.loading.specs.Loading.{load_of}
-use Rattle.opening.specs.declared.Opening.{Opening}
 use Rattle.opening.specs.declared.Opened as opening
 use Rattle.opening.specs.Opened.{refused_with, open_of}
 use Rattle.rounding.specs.declared.Rounding.{Rounding}
@@ -30,7 +29,7 @@ pub record RoundedOpening : Type 0 where
 
 -- "A refused opening returns a state of zeros beside its number": so it has no rounding either
 unfoldable pub refused_rounded : Refusal → Opened
-refused_rounded why = record { answer = Opening.Refused why; run = without_rounding (refused_with why).state }
+refused_rounded why = record { answer = Err why; run = without_rounding (refused_with why).state }
 
 -- "nothing written"
 abbrev pub refuse_rounded : Refusal → List ℕ → List ℕ → RoundedOpening

@@ -4,14 +4,14 @@
 ghost use Rattle.std.specs.Prelude.{◌≡◌};
 ghost use Rattle.rounded_opening.specs.RoundedOpenings.{refused_rounded, open_rounded_of};
 
-use opening::Opening;
 use rounding::Run;
 use vocabulary::{Pipe, Refusal};
 
-// The answer, and the run beside it: a refused opening has a state of zeros, without rounding.
+// The answer, and the run beside it: a refused opening has a state of zeros, without rounding. (A type of its own, and the answer beside the run:
+// the theorems of rounding_demands speak of `answer` and `run`, of a refused opening too.)
 #[derive(Clone, Copy)]
 pub struct Opened {
-    pub answer: Opening,
+    pub answer: Result<(), Refusal>,
     pub run: Run,
 }
 
@@ -19,11 +19,10 @@ pub struct Opened {
 fn refused(why: Refusal) -> Opened
     ensures { result ≡ refused_rounded why }
 {
-    let opened = opening::refused(why);
-    let answer = opened.answer;
-    let state = opened.state;
-    let run = rounding::without_rounding(state);
-    Opened { answer, run }
+    Opened {
+        answer: Err(why),
+        run: rounding::without_rounding(opening::refused(why).state),
+    }
 }
 
 // Opens a run with rounding: loads the plan from its file into the lent memory, makes the run's state, and clears the figures.
@@ -45,24 +44,30 @@ pub fn open_rounded(
         (open_rounded_of file.now workers pipe.0 base mem.old cells.now figures.old).figures }
 {
     let first = opening::preview(file, workers, mem);
-    let told = first.answer;
-    let state = first.state;
-    let Opening::Accepted = told else {
-        let run = rounding::without_rounding(state);
-        return Opened { answer: told, run };
-    };
-    let serial = state.serial;
-    let tokens = state.tables.tokens;
-    match rounding::open(pipe, base, state.pipes, &serial, tokens, cells, figures) {
-        rounding::Opening::NoPipe => refused(Refusal::RoundingPipe),
-        rounding::Opening::NoBase => refused(Refusal::Base),
-        rounding::Opening::Unfit => refused(Refusal::Lent),
-        rounding::Opening::Opens(rounding) => {
+    if let Err(why) = first.answer {
+        return refused(why);
+    }
+    let serial = first.state.serial;
+    let tokens = first.state.tables.tokens;
+    match rounding::open(
+        pipe,
+        base,
+        first.state.pipes,
+        &serial,
+        tokens,
+        cells,
+        figures,
+    ) {
+        Err(why) => refused(why),
+        Ok(rounding) => {
             let opened = opening::open(file, workers, mem);
-            let answer = opened.answer;
-            let state = opened.state;
-            let run = Run { state, rounding };
-            Opened { answer, run }
+            Opened {
+                answer: opened.answer,
+                run: Run {
+                    state: opened.state,
+                    rounding,
+                },
+            }
         }
     }
 }

@@ -1,10 +1,10 @@
 -- A whole run with its rounding, one choice at a time.
 use mathlib.Core.Path.{◌≡◌, refl, sym, ap, ◌∙◌}
-use mathlib.Core.List.{List, [], ◌∷◌}
-use native.Mathlib.Omega.{arith}
+use mathlib.Core.List.{List, [], ◌∷◌, ◌++◌}
 use borrow.Author.Tests.{ne_eqb}
-use Prim.Native.Nat.{ℕ, ◌+◌, ◌*◌, ◌/◌, ◌<◌, ◌≤◌}
-use lib.ListN.{length, get_or, drop}
+use Prim.Native.Nat.{ℕ, ◌<◌}
+use Rattle.std.specs.Prelude.{Ok, Err}
+use lib.ListN.{length, get_or}
 use Rattle.vocabulary.specs.Refusals.{number_of}
 use Rattle.vocabulary.specs.declared.refusal.Refusal.{Refusal}
 use Rattle.rules.specs.Answers.{answer_of}
@@ -15,8 +15,7 @@ use Rattle.rules.specs.RoundedRuns.{handed_on, figures_left}
 use Rattle.tables.specs.State as tables
 use Rattle.tables.specs.Calls.{memory_source}
 use Rattle.state.specs.Machines.{machine_of}
-use Rattle.engine.proofs.Feeding.{choice_at_lem, choices_done}
-use Rattle.opening.specs.declared.Opening.{Opening}
+use Rattle.whole_run.proofs.Summing.{none_in, choice_first}
 use Rattle.opening.specs.declared.Opened as opening
 use Rattle.opening.specs.Opened.{open_of}
 use Rattle.rounding.specs.declared.run.Run.{Run}
@@ -59,47 +58,31 @@ module _ (sum : ℕ) (r : paper.Run tables.State) (cells f : List ℕ) where
   unfolding made_from checksum answers_rounded follow_rounded handed_on figures_left
   made_end = refl
 
--- the choices of the bytes, some of which are made: the run goes on as that at the start does
-module _ (bytes cells : List ℕ) (r₀ : Run) (m₀ f₀ : List ℕ) (sum₀ count : ℕ) where
-  pub record GoesOn (r : Run) (m f : List ℕ) (sum k : ℕ) : Type 0 where
-    pub count_is : count ≡ length bytes / 2
-    pub made : k ≤ count
-    pub lent_memory : length m ≡ length m₀
-    pub lent_figures : length f ≡ length f₀
-    pub goes : made_from sum₀ (run_of r₀ m₀) (choices_in bytes) cells f₀ ≡ made_from sum (run_of r m) (choices_in (drop (2 * k) bytes)) cells f
+-- the choices of the bytes, some of which are left: the run goes on as that at the start does
+module _ (bytes cells : List ℕ) (r₀ : Run) (m₀ f₀ : List ℕ) (sum₀ : ℕ) where
+  pub record GoesOn (rest : List ℕ) (r : Run) (m f : List ℕ) (sum : ℕ) : Type 0 where
+    pub goes : made_from sum₀ (run_of r₀ m₀) (choices_in bytes) cells f₀ ≡ made_from sum (run_of r m) (choices_in rest) cells f
 
-module _ {bytes cells : List ℕ} {r₀ : Run} {m₀ f₀ : List ℕ} {sum₀ count : ℕ} {r : Run} {m f : List ℕ} {sum k : ℕ}
-    (inv : GoesOn bytes cells r₀ m₀ f₀ sum₀ count r m f sum k) where
-  -- after a turn, its answer added,
-  module _ (left : k < count) (c : Chosen) (m' f' : List ℕ)
-      (c-is : chosen_of c m' f' ≡ choose_rounded memory_source (run_of r m) (lent (get_or bytes (2 * k) 0) (get_or bytes (2 * k + 1) 0) cells f))
-      {n : ℕ} (n-is : n ≡ mixed sum (value_of (answer_of c.answer))) where
-    turn : made_from sum (run_of r m) (choices_in (drop (2 * k) bytes)) cells f ≡
-        after sum (run_of r m) cells f (choices_in (drop (2 * (k + 1)) bytes)) (chosen_of c m' f')
-    turn = rw (choice_at_lem bytes k (omega (arith, inv.count_is, left)), c-is) (made_turn sum (run_of r m) cells f _ _)
+module _ {bytes cells : List ℕ} {r₀ : Run} {m₀ f₀ : List ℕ} {sum₀ : ℕ} {rest : List ℕ} {r : Run} {m f : List ℕ} {sum : ℕ}
+    (inv : GoesOn bytes cells r₀ m₀ f₀ sum₀ rest r m f sum) where
+  -- after a choice, its answer added,
+  module _ (chunk left : List ℕ) (rest-is : rest ≡ chunk ++ left) (two : length chunk ≡ 2) {w l : ℕ} (w-is : w ≡ get_or chunk 0 0) (l-is : l ≡ get_or chunk 1 0)
+      (c : Chosen) (m' f' : List ℕ) (made : chosen_of c m' f' ≡ choose_rounded memory_source (run_of r m) (lent w l cells f)) where
+    turn : made_from sum (run_of r m) (choices_in rest) cells f ≡ after sum (run_of r m) cells f (choices_in left) (chosen_of c m' f')
+    turn = rw (rest-is, choice_first chunk left two, ← w-is, ← l-is, made) (made_turn sum (run_of r m) cells f _ _)
 
-    goes_on : made_from sum (run_of r m) (choices_in (drop (2 * k) bytes)) cells f ≡ made_from n (run_of c.run m') (choices_in (drop (2 * (k + 1)) bytes)) cells f'
+    pub again : {n : ℕ} → n ≡ mixed sum (value_of (answer_of c.answer)) → GoesOn bytes cells r₀ m₀ f₀ sum₀ left c.run m' f' n
     unfolding chosen_of
-    goes_on = rw n-is turn
-
-    pub again : length m' ≡ length m → length f' ≡ length f → GoesOn bytes cells r₀ m₀ f₀ sum₀ count c.run m' f' n (k + 1)
-    again same-m same-f = record {
-      count_is = inv.count_is;
-      made = omega (arith, left);
-      lent_memory = same-m ∙ inv.lent_memory;
-      lent_figures = same-f ∙ inv.lent_figures;
-      goes = inv.goes ∙ goes_on;
-    }
+    again n-is = record { goes = inv.goes ∙ rw n-is turn }
 
   -- and after the last
-  module _ (over : count ≤ k) where
-    ends : made_from sum₀ (run_of r₀ m₀) (choices_in bytes) cells f₀ ≡ record { told = sum; memory = m; figures = f }
-    unfolding run_of machine_of
-    ends = inv.goes ∙ rw (choices_done bytes k (omega (arith, inv.count_is, over))) (made_end sum (run_of r m) cells f)
-
-    pub at_end : (sum ≡ (made_from sum₀ (run_of r₀ m₀) (choices_in bytes) cells f₀).told) ×
-        ((m ≡ (made_from sum₀ (run_of r₀ m₀) (choices_in bytes) cells f₀).memory) × (f ≡ (made_from sum₀ (run_of r₀ m₀) (choices_in bytes) cells f₀).figures))
-    at_end = (sym (ap (λ x. x.told) ends), (sym (ap (λ x. x.memory) ends), sym (ap (λ x. x.figures) ends)))
+  pub at_end : length rest < 2 → (sum ≡ (made_from sum₀ (run_of r₀ m₀) (choices_in bytes) cells f₀).told) ×
+      ((m ≡ (made_from sum₀ (run_of r₀ m₀) (choices_in bytes) cells f₀).memory) × (f ≡ (made_from sum₀ (run_of r₀ m₀) (choices_in bytes) cells f₀).figures))
+  unfolding run_of machine_of
+  at_end short =
+      let ends : made_from sum₀ (run_of r₀ m₀) (choices_in bytes) cells f₀ ≡ record { told = sum; memory = m; figures = f } =
+      inv.goes ∙ rw (none_in rest short) (made_end sum (run_of r m) cells f) in
+      (sym (ap (λ x. x.told) ends), (sym (ap (λ x. x.memory) ends), sym (ap (λ x. x.figures) ends)))
 
 -- the whole run, by what the opening answered
 module _ (o : RoundedOpening) (choices : List Choice) (cells : List ℕ) {s : Opened} {m f : List ℕ}
@@ -110,11 +93,11 @@ module _ (o : RoundedOpening) (choices : List Choice) (cells : List ℕ) {s : Op
   abbrev pub Told : ℕ → List ℕ → List ℕ → Type 0
   Told r m' f' = (r ≡ (whole_rounded o choices cells).told) × ((m' ≡ (whole_rounded o choices cells).memory) × (f' ≡ (whole_rounded o choices cells).figures))
 
-  pub refused_run : {why : Refusal} {n : ℕ} → s.answer ≡ Opening.Refused why → n ≡ number_of why → Told n m f
+  pub refused_run : {why : Refusal} {n r : ℕ} → s.answer ≡ Err why → n ≡ number_of why → r ≡ n → Told r m f
   unfolding whole_from
-  refused_run e n-is = rw (← from_opening, e) (n-is, (refl, refl))
+  refused_run e n-is r-is = rw (← from_opening, e) (r-is ∙ n-is, (refl, refl))
 
-  pub accepted_run : {r : ℕ} {m' f' : List ℕ} → s.answer ≡ Opening.Accepted → r ≡ (made_from 0 (run_of s.run m) choices cells f).told →
+  pub accepted_run : {r : ℕ} {m' f' : List ℕ} → s.answer ≡ Ok tt → r ≡ (made_from 0 (run_of s.run m) choices cells f).told →
       m' ≡ (made_from 0 (run_of s.run m) choices cells f).memory → f' ≡ (made_from 0 (run_of s.run m) choices cells f).figures → Told r m' f'
   unfolding whole_from
   accepted_run e r-is m-was f-was = rw (← from_opening, e) (r-is, (m-was, f-was))

@@ -1,5 +1,6 @@
 -- What a whole run with its rounding returns and leaves.
-use Rattle.std.specs.Prelude.{List, ℕ, eqb}
+use Rattle.std.specs.Prelude.{List, Result, Ok, Err, ℕ, eqb}
+use Rattle.vocabulary.specs.declared.refusal.Refusal.{Refusal}
 use Rattle.vocabulary.specs.Refusals.{number_of}
 use Rattle.rules.specs.Lists.{if}
 use Rattle.rules.specs.Choices.{Choice}
@@ -9,8 +10,6 @@ use Rattle.rules.specs.RoundedRuns.{handed_on, figures_left}
 use Rattle.tables.specs.State as tables
 use Rattle.tables.specs.Calls.{memory_source}
 use Rattle.opening.specs.Opened.{open_of}
-use Rattle.opening.specs.declared.Opening.{Opening}
-use Rattle.opening.specs.declared.Opening.TheVariants.{Accepted, Refused}
 use Rattle.rounding.specs.declared.run.Run.{Run}
 use Rattle.rounding.specs.Runs.{run_of, without_rounding}
 use Rattle.rounded_opening.specs.RoundedOpenings.{RoundedOpening, open_rounded_of}
@@ -45,9 +44,9 @@ made_from sum r choices cells figures = record {
 }
 
 -- after an opening with this answer and run, which left this memory and these figures
-unfoldable pub whole_from : Opening → Run → List ℕ → List ℕ → List Choice → List ℕ → WholeRun
-whole_from (Refused why) r m figures choices cells = record { told = number_of why; memory = m; figures = figures }
-whole_from Accepted r m figures choices cells = made_from 0 (run_of r m) choices cells figures
+unfoldable pub whole_from : Result (Unit {0}) Refusal → Run → List ℕ → List ℕ → List Choice → List ℕ → WholeRun
+whole_from (Err why) r m figures choices cells = record { told = number_of why; memory = m; figures = figures }
+whole_from (Ok u) r m figures choices cells = made_from 0 (run_of r m) choices cells figures
 
 abbrev pub whole_rounded : RoundedOpening → List Choice → List ℕ → WholeRun
 whole_rounded o choices cells = whole_from o.returned.answer o.returned.run o.memory o.figures choices cells

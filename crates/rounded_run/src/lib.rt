@@ -6,11 +6,10 @@ ghost use Rattle.rules.specs.Choices.{choices_in};
 ghost use Rattle.rounding.specs.Runs.{run_of};
 ghost use Rattle.rounded_run.specs.RoundedWholeRuns.{opened_with, made_from, whole_rounded};
 
-use opening::Opening;
 use rounded::Chosen;
 use rounded_opening::Opened;
 use rounding::Run;
-use vocabulary::{Answer, Line, Pipe, Refusal, Worker};
+use vocabulary::{Line, Pipe, Refusal, Worker};
 
 // Opens a run with rounding; with base 0, one without.
 #[tactic(auto, using(crate::proofs::Making::plain_opening, crate::proofs::Making::rounded_opening))]
@@ -32,16 +31,17 @@ fn opened(
 {
     if base == 0 {
         let plain = opening::open(file, workers, mem);
-        let answer = plain.answer;
-        let state = plain.state;
-        let run = rounding::without_rounding(state);
-        return Opened { answer, run };
+        return Opened {
+            answer: plain.answer,
+            run: rounding::without_rounding(plain.state),
+        };
     }
     rounded_opening::open_rounded(file, workers, Pipe(pipe), base, mem, cells, figures)
 }
 
 // Makes each two bytes a choice, with the same cells lent to each and the figures as the one before left them. Returns the checksum of
-// the answers. (What a choice returned is kept whole, which saves a copy of the state; the first answer is not looked at.)
+// the answers. (What a choice returned is kept whole, which saves a copy of the state; the first answer is not looked at. The loop is not that of
+// `whole_run::run_by`: its choices are lent cells and figures besides, and a trait over the run and what is lent would be longer than a loop.)
 fn follow(run: Run, choices: &[u8], mem: &mut [u16], cells: &[u32], figures: &mut [u32]) -> u64
     ensures answer { result ≡
         (made_from 0 (run_of run mem.old) (choices_in choices.now) cells.now figures.old).told }
@@ -51,20 +51,15 @@ fn follow(run: Run, choices: &[u8], mem: &mut [u16], cells: &[u32], figures: &mu
         (made_from 0 (run_of run mem.old) (choices_in choices.now) cells.now figures.old).figures }
 {
     let mut chosen = Chosen {
-        answer: Answer::Refused(Refusal::Spoiled),
-        run: run,
+        answer: Err(Refusal::Spoiled),
+        run,
     };
-    let mut sum: u64 = 0;
-    let count = choices.len() / 2;
-    let mut k: usize = 0;
-    while k < count {
-        let before = chosen.run;
-        let worker = choices[2 * k] as u16;
-        let line = choices[2 * k + 1] as u16;
-        chosen = rounded::choose_rounded(before, mem, cells, figures, Worker(worker), Line(line));
-        let answer = chosen.answer;
-        sum = whole_run::add(sum, answer);
-        k += 1;
+    let mut sum = 0;
+    for choice in choices.chunks_exact(2) {
+        let worker = Worker(u16::from(choice[0]));
+        let line = Line(u16::from(choice[1]));
+        chosen = rounded::choose_rounded(chosen.run, mem, cells, figures, worker, line);
+        sum = whole_run::add(sum, chosen.answer);
     }
     sum
 }
@@ -92,10 +87,8 @@ pub fn pipeline_run_rounded(
         (choices_in choices.now) cells.now).figures }
 {
     let start = opened(file, workers, pipe, base, mem, cells, figures);
-    let answer = start.answer;
-    let run = start.run;
-    match answer {
-        Opening::Refused(why) => why.number() as u64,
-        Opening::Accepted => follow(run, choices, mem, cells, figures),
+    match start.answer {
+        Ok(()) => follow(start.run, choices, mem, cells, figures),
+        Err(why) => u64::from(why.number()),
     }
 }

@@ -3,18 +3,11 @@ ghost use Rattle.std.specs.Prelude.{◌≡◌, ◌+◌, ◌*◌, ◌<◌};
 ghost use Rattle.rules.specs.Answers.{answer_of};
 ghost use Rattle.whole_run.specs.Checksums.{step_value, stop_value, value_of, mixed};
 
-use vocabulary::{Answer, Step, Stop};
+use vocabulary::{Event, Refusal, Step, Stop};
 
 const MODULUS: u64 = 2199023255552;
 
 const BASE: u64 = 1000003;
-
-pub(crate) fn wide(x: u16) -> u64
-    ensures same { result ≡ x }
-    ensures small { result < 65536 }
-{
-    x as u64
-}
 
 // The numbers of a start or a finish as one.
 #[tactic(auto, unfolding(crate::specs::Checksums::step_value))]
@@ -22,11 +15,11 @@ fn step_value(step: Step) -> u64
     ensures same { result ≡ step_value step.line.0 step.pipe.0 step.token.0 step.place.0 step.worker.0 }
     ensures small { result < 4504699424473088 }
 {
-    let line = wide(step.line.0);
-    let pipe = wide(step.pipe.0);
-    let token = wide(step.token.0);
-    let place = wide(step.place.0);
-    let worker = wide(step.worker.0);
+    let line = u64::from(step.line.0);
+    let pipe = u64::from(step.pipe.0);
+    let token = u64::from(step.token.0);
+    let place = u64::from(step.place.0);
+    let worker = u64::from(step.worker.0);
     4 * line + 256 * pipe + 4096 * token + 16777216 * place + 68719476736 * worker
 }
 
@@ -36,28 +29,26 @@ fn stop_value(stop: Stop) -> u64
     ensures same { result ≡ stop_value stop.line.0 stop.worker.0 }
     ensures small { result < 4504699424473087 }
 {
-    let line = wide(stop.line.0);
-    let worker = wide(stop.worker.0);
-    4 * line + 68719476736 * worker
+    4 * u64::from(stop.line.0) + 68719476736 * u64::from(stop.worker.0)
 }
 
 // An answer as one number.
 #[tactic(auto, using(crate::proofs::Summing::value_started, crate::proofs::Summing::value_finished, crate::proofs::Summing::value_stopped))]
-fn value(answer: Answer) -> u64
+fn value(answer: Result<Event, Refusal>) -> u64
     ensures same { result ≡ value_of (answer_of answer) }
     ensures small { result < 4504699424473089 }
 {
     match answer {
-        Answer::Started(step) => step_value(step),
-        Answer::Finished(step) => step_value(step) + 1,
-        Answer::Stopped(stop) => stop_value(stop) + 2,
-        Answer::Refused(why) => 4 * wide(why.number()) + 3,
+        Ok(Event::Started(step)) => step_value(step),
+        Ok(Event::Finished(step)) => step_value(step) + 1,
+        Ok(Event::Stopped(stop)) => stop_value(stop) + 2,
+        Err(why) => 4 * u64::from(why.number()) + 3,
     }
 }
 
 // The checksum with one more answer.
 #[tactic(auto, unfolding(crate::specs::Checksums::mixed))]
-pub fn add(sum: u64, answer: Answer) -> u64
+pub fn add(sum: u64, answer: Result<Event, Refusal>) -> u64
     ensures { result ≡ mixed sum (value_of (answer_of answer)) }
 {
     let sum = sum % MODULUS;

@@ -1,17 +1,24 @@
--- A choice goes on by a turn; after the last, what goes on is told.
+-- A chunk is a choice, and goes on by a turn; after the last, what goes on is told.
+use Rattle.std.proofs.Common.{◌∙◌, arith}
 use Rattle.rounded_run.proofs.Making.{again, at_end}
 use Rattle.rounded_run.proofs.follow.Goals as goal
 
-pub loop-k-preserved : goal.loop-k-preserved
-loop-k-preserved c =
-    again c.loop-k.invariant c.loop-k-test.true _ _ _ c.choose_rounded-chosen.ensures c.add-sum.ensures c.choose_rounded-chosen.auto.mem
-    c.choose_rounded-chosen.auto.figures
+pub bounds-choice-1 : goal.bounds-choice-1
+bounds-choice-1 c = omega (arith, c.in-Some.ensures.steps.1.1)
+
+pub loop-choice-preserved : goal.loop-choice-preserved
+loop-choice-preserved c =
+    let inv = c.loop-choice.invariant in
+    let next = c.in-Some.ensures.steps in (
+      next.0 ∙ inv.0,
+      again inv.1 _ _ next.1.0 (next.1.1 ∙ inv.0) c.from.ensures c.from-in-loop-choice.ensures _ _ _ c.choose_rounded-chosen.ensures c.add-sum.ensures,
+    )
 
 pub returns-clause-answer : goal.returns-clause-answer
-returns-clause-answer c = (at_end c.loop-k.invariant c.loop-k-test.false).0
+returns-clause-answer c = (at_end c.loop-choice.invariant.1 (omega (arith, c.in-None.ensures.steps.1.0))).0
 
 pub returns-clause-memory : goal.returns-clause-memory
-returns-clause-memory c = (at_end c.loop-k.invariant c.loop-k-test.false).1.0
+returns-clause-memory c = (at_end c.loop-choice.invariant.1 (omega (arith, c.in-None.ensures.steps.1.0))).1.0
 
 pub returns-clause-left : goal.returns-clause-left
-returns-clause-left c = (at_end c.loop-k.invariant c.loop-k-test.false).1.1
+returns-clause-left c = (at_end c.loop-choice.invariant.1 (omega (arith, c.in-None.ensures.steps.1.0))).1.1

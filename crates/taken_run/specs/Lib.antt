@@ -1,2 +1,0 @@
--- What there is to take of an answer.
-pub mod Takings
