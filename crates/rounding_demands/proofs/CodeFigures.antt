@@ -1,11 +1,13 @@
 -- What every session of the code publishes is what the rounding paper says.
+use Rattle.std.proofs.Common.{Result}
+use Rattle.vocabulary.specs.declared.refusal.Refusal.{Refusal}
 use mathlib.Core.Path.{◌≡◌, refl, sym, ap, subst, ◌∙◌}
 use mathlib.Core.Bool.{true, false}
 use mathlib.Core.List.{List, [], ◌∷◌, map}
 use Prim.Native.Nat.{ℕ, suc, ◌-◌, ◌≤◌, ◌<◌}
 use native.Mathlib.Omega.{arith}
 use lib.ListN.{length, get_or, replicate}
-use Rattle.vocabulary.specs.declared.answer.Answer.{Answer}
+use Rattle.vocabulary.specs.declared.event.Event.{Event}
 use Rattle.rules.specs.Lists.{has, Every}
 use Rattle.rules.specs.RunState.{Machine}
 use Rattle.rules.specs.Ranges.{sound}
@@ -52,7 +54,7 @@ use Rattle.rounding_demands.proofs.RoundedPlans.{rounded_demands}
 use Rattle.rounding_demands.proofs.OneRun.{same_rounding, same_run}
 
 -- what such calls answer and leave, by the rules
-pub record Carries (cells : List ℕ) (r : Run) (m f : List ℕ) (cs : List Choice) (told : List Answer) (t : Run) (end g : List ℕ) : Type 0 where
+pub record Carries (cells : List ℕ) (r : Run) (m f : List ℕ) (cs : List Choice) (told : List (Result Event Refusal)) (t : Run) (end g : List ℕ) : Type 0 where
   pub told_is : map answer_of told ≡ answers_rounded memory_source (run_of r m) (handed_on memory_source cells (run_of r m) f cs)
   pub left_is : run_of t end ≡ follow_rounded memory_source (run_of r m) (handed_on memory_source cells (run_of r m) f cs)
   pub figures_are : g ≡ figures_left memory_source cells (run_of r m) f cs
@@ -84,7 +86,7 @@ module _ (cells : List ℕ) (x : paper.Run tables.State) (f : List ℕ) (c : Cho
         ap (λ (t : paper.Run tables.State). figures_left memory_source cells t made.figures cs) run_is ∙
         ap (λ (k : List ℕ). figures_left memory_source cells y k cs) left_is
 
-pub calls_carry : {cells : List ℕ} {r t : Run} {m end f g : List ℕ} {cs : List Choice} {told : List Answer} → CarriedCalls cells r m f cs told t end g →
+pub calls_carry : {cells : List ℕ} {r t : Run} {m end f g : List ℕ} {cs : List Choice} {told : List (Result Event Refusal)} → CarriedCalls cells r m f cs told t end g →
     Carries cells r m f cs told t end g
 unfolding answers_rounded follow_rounded handed_on figures_left chosen_of
 calls_carry no_call = record { told_is = refl; left_is = refl; figures_are = refl }
@@ -210,7 +212,7 @@ module _ {file : List ℕ} (bytes : Bytes file) {workers : ℕ} {lent : List ℕ
     total_here = ap sum_of publishes_here ∙ carried_here.total ∙ ap (λ k. published base (cells_up_to p cells k)) all_through
 
   -- two neighbours in either order
-  module _ {a b : Choice} (apart : a.line ≡ b.line → ⊥) {on-a on-b on-b' on-a' : Answer} {one other : Run} {m m' f f' : List ℕ}
+  module _ {a b : Choice} (apart : a.line ≡ b.line → ⊥) {on-a on-b on-b' on-a' : Result Event Refusal} {one other : Run} {m m' f f' : List ℕ}
       (one_way : CarriedCalls cells s.run s.memory s.publishes (a ∷ b ∷ []) (on-a ∷ on-b ∷ []) one m f)
       (other_way : CarriedCalls cells s.run s.memory s.publishes (b ∷ a ∷ []) (on-b' ∷ on-a' ∷ []) other m' f')
       (accepted : Every Accepted (map answer_of (on-a ∷ on-b ∷ []))) (accepted' : Every Accepted (map answer_of (on-b' ∷ on-a' ∷ []))) where

@@ -1,10 +1,10 @@
 -- An offer of the code with rounding, followed by its taking, is the choice.
+use Rattle.std.proofs.Common.{Result, Err}
 use mathlib.Core.Path.{◌≡◌, sym, ap, ◌∙◌}
 use mathlib.Core.List.{List}
 use Prim.Native.Nat.{ℕ}
 use Rattle.vocabulary.specs.Refusals.{number_of}
 use Rattle.vocabulary.specs.Events.{event_record}
-use Rattle.vocabulary.specs.declared.answer.Answer.{Answer}
 use Rattle.vocabulary.specs.declared.event.Event.{Event}
 use Rattle.vocabulary.specs.declared.refusal.Refusal.{Refusal}
 use Rattle.rules.specs.Choices.{Refused}
@@ -37,7 +37,7 @@ refused_unchanged r m a c k g n called told =
     let (runs, memories) = same_run c.run r k m (ap (λ (x : RoundedChosen tables.State). x.run) called ∙ run_is) in
     (runs, memories, ap (λ (x : RoundedChosen tables.State). x.figures) called ∙ figures_are)
 
-pub offer_then_take : (r : Run) (m : List ℕ) (a : Lending) (told : Answer) → OfferRoundedCall r m a told → OfferThenTake r m a told
+pub offer_then_take : (r : Run) (m : List ℕ) (a : Lending) (told : Result Event Refusal) → OfferRoundedCall r m a told → OfferThenTake r m a told
 unfolding chosen_of answer_of
 offer_then_take r m a told offers = record {
   offered = λ c k g chooses. one_answer c.answer told (ap (λ (x : RoundedChosen tables.State). x.answer) chooses ∙ sym offers);
@@ -45,7 +45,7 @@ offer_then_take r m a told offers = record {
       let event : (choose_rounded memory_source (run_of r m) a).answer ≡ event_of e = sym offers ∙ ap answer_of told_is ∙ event_is e in
       same_return t c m' k f' g (takes ∙ (taken_rounded memory_source (run_of r m) e a.cells a.figures).as_chosen a.choice event ∙ sym chooses);
   refused = λ why told_is c k g chooses.
-      let answer-is : c.answer ≡ Answer.Refused why = one_answer c.answer told (ap (λ (x : RoundedChosen tables.State). x.answer) chooses ∙ sym offers) ∙ told_is in
+      let answer-is : c.answer ≡ Err why = one_answer c.answer told (ap (λ (x : RoundedChosen tables.State). x.answer) chooses ∙ sym offers) ∙ told_is in
       let (runs, memories, lefts) = refused_unchanged r m a c k g (number_of why) chooses (ap answer_of answer-is) in
       (λ i. record { answer = answer-is i; run = runs i }, memories, lefts);
 }

@@ -1,10 +1,11 @@
 -- Every session of the code with rounding is as the rounding paper says, and a refused opening changes nothing.
+use Rattle.std.proofs.Common.{Result, Err}
 use mathlib.Core.Path.{◌≡◌, refl, sym, ap, subst, ◌∙◌}
 use mathlib.Core.Bool.{true}
 use mathlib.Core.List.{List, ◌∷◌, map}
 use Prim.Native.Nat.{ℕ, ◌≤◌}
 use lib.ListN.{length}
-use Rattle.vocabulary.specs.declared.answer.Answer.{Answer}
+use Rattle.vocabulary.specs.declared.event.Event.{Event}
 use Rattle.vocabulary.specs.declared.refusal.Refusal.{Refusal}
 use Rattle.rules.specs.Lists.{within}
 use Rattle.rules.specs.RunState.{Machine}
@@ -26,7 +27,6 @@ use Rattle.loading.specs.Plans.{pipeline_of}
 use Rattle.state.specs.Machines.{machine_of}
 use Rattle.state.specs.Ending.{ended_of}
 use Rattle.state.proofs.in_range.SoundLaws.{ended_is as ended_as_rules}
-use Rattle.opening.specs.declared.Opening.{Opening}
 use Rattle.opening.specs.Opened.{state_of, open_of, refused_with}
 use Rattle.rounding.specs.declared.run.Run.{Run}
 use Rattle.rounding.specs.Roundings.{rounding_of}
@@ -49,7 +49,7 @@ use Rattle.rounding_demands.proofs.RoundedPlans.{rounded_demands}
 use Rattle.rounding_demands.proofs.OneRun.{same_return}
 
 -- the calls' answers and the run that they leave are those of the rules' lists of choices
-pub calls_told : {r t : Run} {m end : List ℕ} {ls : List Lending} {told : List Answer} → RoundedCalls r m ls told t end →
+pub calls_told : {r t : Run} {m end : List ℕ} {ls : List Lending} {told : List (Result Event Refusal)} → RoundedCalls r m ls told t end →
     (map answer_of told ≡ answers_rounded memory_source (run_of r m) ls) × (run_of t end ≡ follow_rounded memory_source (run_of r m) ls)
 unfolding answers_rounded follow_rounded chosen_of
 calls_told no_call = (refl, refl)
@@ -204,7 +204,7 @@ zeros_refused why m a = refl
 
 -- a refused opening writes nothing, figures neither, and a choice on what it returns gets 14
 pub refused_rounding : (file : List ℕ) (workers pipe base : ℕ) (m cells figures : List ℕ) (o : Opened) (m' figures' : List ℕ) (why : Refusal) →
-    OpenRoundedCall file workers pipe base m cells figures o m' figures' → o.answer ≡ Opening.Refused why → RefusedRounding why m figures o m' figures'
+    OpenRoundedCall file workers pipe base m cells figures o m' figures' → o.answer ≡ Err why → RefusedRounding why m figures o m' figures'
 unfolding chosen_of answer_of
 refused_rounding file workers pipe base m cells figures o m' figures' why (o_is, m-is, f-is) e =
     let all : open_rounded_of file workers pipe base m cells figures ≡ record { returned = refused_rounded why; memory = m; figures = figures } =
@@ -215,8 +215,8 @@ refused_rounding file workers pipe base m cells figures o m' figures' why (o_is,
       kept = m-is ∙ ap (λ (x : RoundedOpening). x.memory) all;
       figures_kept = f-is ∙ ap (λ (x : RoundedOpening). x.figures) all;
       spoiled = λ mem a c mem' left called.
-          let told : chosen_of c mem' left ≡ chosen_of (record { answer = Answer.Refused Refusal.Spoiled; run = o.run }) mem a.figures =
+          let told : chosen_of c mem' left ≡ chosen_of (record { answer = Err Refusal.Spoiled; run = o.run }) mem a.figures =
           called ∙ subst (λ (x : Opened). choose_rounded memory_source (run_of x.run mem) a ≡ refuse_with (run_of x.run mem) a (Refused 14)) (sym zeros) (zeros_refused why mem a) in
-          let (c-is, memories, lefts) = same_return c (record { answer = Answer.Refused Refusal.Spoiled; run = o.run }) mem' mem left a.figures told in
+          let (c-is, memories, lefts) = same_return c (record { answer = Err Refusal.Spoiled; run = o.run }) mem' mem left a.figures told in
           (ap (λ (x : Chosen). answer_of x.answer) c-is, ap (λ (x : Chosen). x.run) c-is, memories, lefts);
     }

@@ -1,6 +1,7 @@
 -- What runs of the code publish: those with the same cells throughout, and the figures handed on as left.
-use Rattle.std.specs.Prelude.{◌≡◌, true, false, List, [], ◌∷◌, map, ℕ, suc, ◌-◌, ◌≤◌, ◌<◌, length, get_or, take}
-use Rattle.vocabulary.specs.declared.answer.Answer.{Answer}
+use Rattle.vocabulary.specs.declared.refusal.Refusal.{Refusal}
+use Rattle.std.specs.Prelude.{◌≡◌, true, false, List, [], ◌∷◌, map, ℕ, suc, ◌-◌, ◌≤◌, ◌<◌, length, get_or, take, Result, Ok}
+use Rattle.vocabulary.specs.declared.event.Event.{Event}
 use Rattle.rules.specs.Lists.{has, Every}
 use Rattle.rules.specs.Choices as rules
 use Rattle.rules.specs.Choices.{Choice, Refused, ended}
@@ -14,7 +15,6 @@ use Rattle.tables.specs.Calls.{memory_source}
 use Rattle.loading.specs.Plans.{pipeline_of}
 use Rattle.state.specs.Machines.{machine_of}
 use Rattle.state.specs.Ending.{ended_of}
-use Rattle.opening.specs.declared.Opening.{Opening}
 use Rattle.rounding.specs.declared.run.Run.{Run}
 use Rattle.rounded_opening.specs.declared.Opened.{Opened}
 use Rattle.demands.specs.Demands.{order, begun, told, left}
@@ -24,9 +24,9 @@ use Rattle.rounding_demands.specs.CodeRounding.{ChooseRoundedCall, OpenRoundedCa
 
 -- from a run, its memory and figures, calls of `choose_rounded` with these choices, each given what the one before left, "with the same
 -- cells throughout and the figures handed on as left", returned these answers and left this run, memory and figures
-pub data CarriedCalls (cells : List ℕ) : Run → List ℕ → List ℕ → List Choice → List Answer → Run → List ℕ → List ℕ → Type 0 where
+pub data CarriedCalls (cells : List ℕ) : Run → List ℕ → List ℕ → List Choice → List (Result Event Refusal) → Run → List ℕ → List ℕ → Type 0 where
   no_call : {r : Run} {m f : List ℕ} → CarriedCalls cells r m f [] [] r m f
-  call : {r next last : Run} {m m' end f f' left : List ℕ} {c : Choice} {cs : List Choice} {a : Answer} {rest : List Answer} →
+  call : {r next last : Run} {m m' end f f' left : List ℕ} {c : Choice} {cs : List Choice} {a : Result Event Refusal} {rest : List (Result Event Refusal)} →
       ChooseRoundedCall r m (record { choice = c; cells = cells; figures = f }) (record { answer = a; run = next }) m' f' →
       CarriedCalls cells next m' f' cs rest last end left → CarriedCalls cells r m f (c ∷ cs) (a ∷ rest) last end left
 
@@ -37,8 +37,8 @@ pub record CarriedSession (file : List ℕ) (workers : ℕ) (lent : List ℕ) (p
   pub begun : List ℕ
   pub cleared : List ℕ
   pub opens : OpenRoundedCall file workers pipe base lent cells figures opening begun cleared
-  pub accepts : opening.answer ≡ Opening.Accepted
-  pub answers : List Answer
+  pub accepts : opening.answer ≡ Ok tt
+  pub answers : List (Result Event Refusal)
   pub run : Run
   pub memory : List ℕ
   pub publishes : List ℕ
@@ -101,7 +101,7 @@ module _ {file : List ℕ} {workers : ℕ} {lent : List ℕ} {pipe base : ℕ} {
     -- a list of choices that was accepted, made again under a larger limit in the same lent memory, has the same events, T and figures
     pub reused : Every Accepted carried_events → {larger : ℕ} (t : CarriedSession file larger lent pipe base cells choices) → workers ≤ larger → SameCarried t
     -- two neighbours on different lines, accepted in both orders, lead to the same state, numbers, T and figures, each with the same event
-    pub swapped : {a b : Choice} → (a.line ≡ b.line → ⊥) → {on-a on-b on-b' on-a' : Answer} {one other : Run} {m m' f f' : List ℕ} →
+    pub swapped : {a b : Choice} → (a.line ≡ b.line → ⊥) → {on-a on-b on-b' on-a' : Result Event Refusal} {one other : Run} {m m' f f' : List ℕ} →
         CarriedCalls cells s.run s.memory s.publishes (a ∷ b ∷ []) (on-a ∷ on-b ∷ []) one m f →
         CarriedCalls cells s.run s.memory s.publishes (b ∷ a ∷ []) (on-b' ∷ on-a' ∷ []) other m' f' →
         Every Accepted (map answer_of (on-a ∷ on-b ∷ [])) → Every Accepted (map answer_of (on-b' ∷ on-a' ∷ [])) →

@@ -1,7 +1,7 @@
 -- Runs of the code with rounding: what a caller of `open_rounded`, or of `open`, and of `choose_rounded` sees, whatever cells and figures
 -- it lends to each call. Of each call nothing is known here but what its `ensures` says, in the same words.
-use Rattle.std.specs.Prelude.{◌≡◌, true, List, [], ◌∷◌, map, ℕ, ◌≤◌, length}
-use Rattle.vocabulary.specs.declared.answer.Answer.{Answer}
+use Rattle.std.specs.Prelude.{◌≡◌, true, List, [], ◌∷◌, map, ℕ, ◌≤◌, length, Result, Ok}
+use Rattle.vocabulary.specs.declared.event.Event.{Event}
 use Rattle.vocabulary.specs.declared.refusal.Refusal.{Refusal}
 use Rattle.rules.specs.Choices as rules
 use Rattle.rules.specs.Choices.{Choice, Refused, ended}
@@ -17,7 +17,6 @@ use Rattle.tables.specs.Calls.{memory_source}
 use Rattle.loading.specs.Plans.{pipeline_of}
 use Rattle.state.specs.Machines.{machine_of}
 use Rattle.state.specs.Ending.{ended_of}
-use Rattle.opening.specs.declared.Opening.{Opening}
 use Rattle.opening.specs.declared.Opened as opening
 use Rattle.rounding.specs.declared.run.Run.{Run}
 use Rattle.rounding.specs.Roundings.{rounding_of}
@@ -44,18 +43,18 @@ OpenRoundedCall file workers pipe base m cells figures o m' figures' =
 
 -- from a run and memory, calls of `choose_rounded` with these choices, each given the run and memory that the one before left, and
 -- whatever cells and figures, returned these answers and left this run and memory
-pub data RoundedCalls : Run → List ℕ → List Lending → List Answer → Run → List ℕ → Type 0 where
+pub data RoundedCalls : Run → List ℕ → List Lending → List (Result Event Refusal) → Run → List ℕ → Type 0 where
   no_call : {r : Run} {m : List ℕ} → RoundedCalls r m [] [] r m
-  call : {r next last : Run} {m m' end : List ℕ} {a : Lending} {more : List Lending} {told : Answer} {rest : List Answer} (figures' : List ℕ) →
+  call : {r next last : Run} {m m' end : List ℕ} {a : Lending} {more : List Lending} {told : Result Event Refusal} {rest : List (Result Event Refusal)} (figures' : List ℕ) →
       ChooseRoundedCall r m a (record { answer = told; run = next }) m' figures' → RoundedCalls next m' more rest last end →
       RoundedCalls r m (a ∷ more) (told ∷ rest) last end
 
 -- an accepted opening of a file, without rounding or with it, gave this run and left this memory
 pub data RoundedOpens (file : List ℕ) (workers : ℕ) (lent : List ℕ) (r : Run) (m : List ℕ) : Type 0 where
-  plainly : (o : opening.Opened) → OpenCall file workers lent o m → o.answer ≡ Opening.Accepted → r ≡ without_rounding o.state →
+  plainly : (o : opening.Opened) → OpenCall file workers lent o m → o.answer ≡ Ok tt → r ≡ without_rounding o.state →
       RoundedOpens file workers lent r m
   rounding : (pipe base : ℕ) (cells figures figures' : List ℕ) (o : Opened) →
-      OpenRoundedCall file workers pipe base lent cells figures o m figures' → o.answer ≡ Opening.Accepted → r ≡ o.run →
+      OpenRoundedCall file workers pipe base lent cells figures o m figures' → o.answer ≡ Ok tt → r ≡ o.run →
       RoundedOpens file workers lent r m
 
 -- an opening of a file with W workers in lent memory, these choices with what was lent to each, and what came of them
@@ -63,7 +62,7 @@ pub record RoundedSession (file : List ℕ) (workers : ℕ) (lent : List ℕ) (l
   pub first : Run
   pub begun : List ℕ
   pub opens : RoundedOpens file workers lent first begun
-  pub answers : List Answer
+  pub answers : List (Result Event Refusal)
   pub run : Run
   pub memory : List ℕ
   pub calls : RoundedCalls first begun lendings answers run memory
