@@ -32,7 +32,8 @@ pub struct Progress {
     pub state: State,
 }
 
-// A journal: events, each with its index.
+// A journal: events, each with its index. (Not any Iterator: a walk over one asks of its caller that it ends, and no public function asks
+// anything.)
 pub trait Journal {
     ghost events: { Self → List EventRecord };
 
