@@ -54,8 +54,10 @@ fn print<F: Fn(i32, &[u8], Sink, &mut [u8]) -> Sink>(
 }
 
 fn main(rt: HostRuntime) -> std::io::Result<()> {
-    print(&rt, "plans.bin", &|_, file, sink, out| {
-        plans::put_reading(file, sink, out)
-    })?;
+    print(
+        &rt,
+        "plans.bin",
+        &|_, file, sink, out| { plans::put_reading(file, sink, out) },
+    )?;
     print(&rt, "runs.bin", &runs::put_run)
 }

@@ -97,7 +97,12 @@ fn made_run(fd: i32, file: &[u8], sink: Sink, out: &mut [u8]) -> Sink {
         modulus: u16::from_le_bytes(stored::array(fd)),
     };
     match digest(file, made).target {
-        Target::Digested(digest) => printing::put_line(sink, out, b"#", &[digest.lines, digest.sum]),
+        Target::Digested(digest) => printing::put_line(
+            sink,
+            out,
+            b"#",
+            &[digest.lines, digest.sum],
+        ),
         Target::StandardOutput => sink,
     }
 }
