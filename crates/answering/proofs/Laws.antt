@@ -16,12 +16,11 @@ use Rattle.rules.specs.Choices as rules
 use Rattle.rules.specs.Rounding as paper
 use Rattle.rules.specs.RoundedOffers.{take_rounded}
 use Rattle.plan.specs.declared.trailer.Header.{Header}
-use Rattle.plan.specs.declared.Reading.{Reading}
+use Rattle.std.specs.Prelude.{Result, Ok, Err}
 use Rattle.tables.specs.State as tables
 use Rattle.tables.specs.Calls.{memory_source}
 use Rattle.state.specs.Machines.{machine_of}
 use Rattle.state.specs.Ending.{ended_of}
-use Rattle.opening.specs.declared.Opening.{Opening}
 use Rattle.opening.specs.declared.Opened.{Opened}
 use Rattle.opening.specs.Opened.{open_of}
 use Rattle.rounding.specs.declared.run.Run.{Run}
@@ -46,21 +45,21 @@ use Rattle.answering.specs.Answers.{Held, lent_cells, lent_figures, with_output,
 
 module _ (o : Output) {r : Output} where
   -- a plan file
-  pub reads_plan : {a : Reading} {h : Header} → a ≡ Reading.Accepted h → r ≡ put_each o (header_texts h) → r ≡ put_each o (reading_texts a)
+  pub reads_plan : {a : Result Header Refusal} {h : Header} → a ≡ Ok h → r ≡ put_each o (header_texts h) → r ≡ put_each o (reading_texts a)
   unfolding reading_texts
   reads_plan e r-is = rw e r-is
 
-  pub reads_none : {a : Reading} {why : Refusal} → a ≡ Reading.Refused why → r ≡ put_each o (refusal_texts (number_of why)) →
+  pub reads_none : {a : Result Header Refusal} {why : Refusal} → a ≡ Err why → r ≡ put_each o (refusal_texts (number_of why)) →
       r ≡ put_each o (reading_texts a)
   unfolding reading_texts
   reads_none e r-is = rw e r-is
 
   -- an opening
-  pub opens : {a : Opening} → a ≡ Opening.Accepted → r ≡ put_of o (65 ∷ 10 ∷ []) → r ≡ put_each o (opening_texts a)
+  pub opens : {a : Result (Unit {0}) Refusal} → a ≡ Ok tt → r ≡ put_of o (65 ∷ 10 ∷ []) → r ≡ put_each o (opening_texts a)
   unfolding opening_texts
   opens e r-is = rw e (put_one o (65 ∷ 10 ∷ []) r-is)
 
-  pub opens_not : {a : Opening} {why : Refusal} → a ≡ Opening.Refused why → r ≡ put_each o (refusal_texts (number_of why)) →
+  pub opens_not : {a : Result (Unit {0}) Refusal} {why : Refusal} → a ≡ Err why → r ≡ put_each o (refusal_texts (number_of why)) →
       r ≡ put_each o (opening_texts a)
   unfolding opening_texts
   opens_not e r-is = rw e r-is
@@ -177,11 +176,11 @@ module _ (file : List ℕ) (asked : RoundingAt) (many : ℕ) (c : Held) {m n : �
       rw (r-is, count_is, e, memory_is, part-is, ← first_lent c.cells many m-is, ← first_lent c.figures many n-is, rest_kept c.figures many n-is)
 
 -- how many cells are lent after an opening
-module _ {a : Opening} (many : ℕ) where
-  pub lent_all : a ≡ Opening.Accepted → many ≡ if (is_accepted a) many 0
+module _ {a : Result (Unit {0}) Refusal} (many : ℕ) where
+  pub lent_all : a ≡ Ok tt → many ≡ if (is_accepted a) many 0
   lent_all e = rw e
 
-  pub lent_none : {why : Refusal} → a ≡ Opening.Refused why → 0 ≡ if (is_accepted a) many 0
+  pub lent_none : {why : Refusal} → a ≡ Err why → 0 ≡ if (is_accepted a) many 0
   lent_none e = rw e
 
 -- a command is answered by its kind

@@ -1,9 +1,8 @@
 -- The lines of the console's answers, in texts.
-use Rattle.std.specs.Prelude.{List, [], ◌∷◌, ℕ}
+use Rattle.std.specs.Prelude.{List, [], ◌∷◌, ℕ, Result, Ok, Err}
 use Rattle.vocabulary.specs.Refusals.{number_of}
+use Rattle.vocabulary.specs.declared.refusal.Refusal.{Refusal}
 use Rattle.plan.specs.declared.trailer.Header.{Header}
-use Rattle.plan.specs.declared.Reading as reading
-use Rattle.opening.specs.declared.Opening as opening
 use Rattle.rules.specs.Journals.{Verdict, Complete, CorrectSoFar, Wrong, NotOpened}
 use Rattle.printing.specs.Texts.{line_texts, refusal_texts}
 
@@ -12,14 +11,14 @@ unfoldable pub header_texts : Header → List (List ℕ)
 header_texts h = line_texts (80 ∷ []) (h.pipes ∷ h.lines ∷ h.tokens ∷ h.records ∷ h.edition ∷ [])
 
 -- of a plan file: its header, or `R n`
-unfoldable pub reading_texts : reading.Reading → List (List ℕ)
-reading_texts (reading.TheVariants.Accepted h) = header_texts h
-reading_texts (reading.TheVariants.Refused why) = refusal_texts (number_of why)
+unfoldable pub reading_texts : Result Header Refusal → List (List ℕ)
+reading_texts (Ok h) = header_texts h
+reading_texts (Err why) = refusal_texts (number_of why)
 
 -- of an opening: `A`, or `R n`
-unfoldable pub opening_texts : opening.Opening → List (List ℕ)
-opening_texts opening.TheVariants.Accepted = (65 ∷ 10 ∷ []) ∷ []
-opening_texts (opening.TheVariants.Refused why) = refusal_texts (number_of why)
+unfoldable pub opening_texts : Result (Unit {0}) Refusal → List (List ℕ)
+opening_texts (Ok ok) = (65 ∷ 10 ∷ []) ∷ []
+opening_texts (Err why) = refusal_texts (number_of why)
 
 -- `wrong i n`: the index of the first wrong event, and its refusal's number
 unfoldable pub wrong_texts : ℕ → ℕ → List (List ℕ)

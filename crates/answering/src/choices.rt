@@ -1,20 +1,12 @@
 // The answers to choices, offers and takings: the first cells and figures are lent, as many as the run has.
-ghost use Rattle.std.specs.Prelude.{◌≡◌, min};
+// `mem`, `cells` and `figures` are in no struct, here, in `serving` and in the program: behind a `&mut` of it each contract would have
+// to say besides that the references stay the same ones (tried: without that the program's functions get no proof).
+ghost use Rattle.std.specs.Prelude.{◌≡◌};
 ghost use Rattle.answering.specs.Answers.{held_of, chosen_in, offered_in, taken_in};
 
 use crate::Talk;
 use commands::Choice;
 use vocabulary::Event;
-
-// The smaller of two sizes.
-pub(crate) fn at_most(n: usize, most: usize) -> usize
-    ensures { result ≡ min n most }
-{
-    if most < n {
-        return most;
-    }
-    n
-}
 
 // `choose WORKER LINE`: the answer of the choice.
 #[tactic(auto, using(crate::proofs::Laws::lent_size))]
@@ -29,19 +21,21 @@ pub(crate) fn choose_line(
     ensures { held_of result mem.new cells.now figures.new out.new ≡
         chosen_in choice (held_of talk mem.old cells.now figures.old out.old) }
 {
-    let run = talk.run;
-    let sink = talk.sink;
-    let worker = choice.worker;
-    let line = choice.line;
-    let m = at_most(talk.lent, cells.len());
-    let n = at_most(talk.lent, figures.len());
-    let chosen = rounded::choose_rounded(run, mem, &cells[..m], &mut figures[..n], worker, line);
-    let after = chosen.run;
-    let answer = chosen.answer;
+    let Choice { worker, line } = choice;
+    let m = talk.lent.min(cells.len());
+    let n = talk.lent.min(figures.len());
+    let chosen = rounded::choose_rounded(
+        talk.run,
+        mem,
+        &cells[..m],
+        &mut figures[..n],
+        worker,
+        line,
+    );
     Talk {
-        run: after,
-        lent: talk.lent,
-        sink: printing::put_answer(sink, out, answer),
+        run: chosen.run,
+        sink: printing::put_answer(talk.sink, out, chosen.answer),
+        ..talk
     }
 }
 
@@ -58,17 +52,13 @@ pub(crate) fn offer_line(
     ensures { held_of result mem.now cells.now figures.now out.new ≡
         offered_in choice (held_of talk mem.now cells.now figures.now out.old) }
 {
-    let run = talk.run;
-    let sink = talk.sink;
-    let worker = choice.worker;
-    let line = choice.line;
-    let m = at_most(talk.lent, cells.len());
-    let n = at_most(talk.lent, figures.len());
-    let answer = rounded::offer_rounded(run, mem, &cells[..m], &figures[..n], worker, line);
+    let Choice { worker, line } = choice;
+    let m = talk.lent.min(cells.len());
+    let n = talk.lent.min(figures.len());
+    let answer = rounded::offer_rounded(talk.run, mem, &cells[..m], &figures[..n], worker, line);
     Talk {
-        run: run,
-        lent: talk.lent,
-        sink: printing::put_answer(sink, out, answer),
+        sink: printing::put_answer(talk.sink, out, answer),
+        ..talk
     }
 }
 
@@ -85,16 +75,12 @@ pub(crate) fn take_event(
     ensures { held_of result mem.new cells.now figures.new out.new ≡
         taken_in event (held_of talk mem.old cells.now figures.old out.old) }
 {
-    let run = talk.run;
-    let sink = talk.sink;
-    let m = at_most(talk.lent, cells.len());
-    let n = at_most(talk.lent, figures.len());
-    let taken = rounded::take_rounded(run, mem, &cells[..m], &mut figures[..n], event);
-    let after = taken.run;
-    let answer = taken.answer;
+    let m = talk.lent.min(cells.len());
+    let n = talk.lent.min(figures.len());
+    let taken = rounded::take_rounded(talk.run, mem, &cells[..m], &mut figures[..n], event);
     Talk {
-        run: after,
-        lent: talk.lent,
-        sink: printing::put_answer(sink, out, answer),
+        run: taken.run,
+        sink: printing::put_answer(talk.sink, out, taken.answer),
+        ..talk
     }
 }

@@ -14,11 +14,11 @@ ghost use Rattle.sink.specs.Sinks.{put_each};
 ghost use Rattle.answering.specs.Lines.{reading_texts, marking_texts};
 ghost use Rattle.answering.specs.Answers.{held_of, opened_in, opened_rounded_in, told, figures_in, sum_in, ended_in, answered};
 
-use choices::{at_most, choose_line, offer_line, take_event};
+use choices::{choose_line, offer_line, take_event};
 use commands::{Command, RoundingAt};
-use opening::Opening;
 use rounding::Run;
 use sink::Sink;
+use vocabulary::Refusal;
 
 // A run that goes on, with how many cells and figures are lent to it; and where its output goes.
 #[derive(Clone, Copy)]
@@ -34,12 +34,9 @@ pub fn answer_plan(talk: Talk, file: &[u8], out: &mut [u8]) -> Talk
     ensures output { (result.sink, out.new) ≡
         put_each (talk.sink, out.old) (reading_texts (reading_of (read_of file.now))) }
 {
-    let run = talk.run;
-    let sink = talk.sink;
     Talk {
-        run: run,
-        lent: talk.lent,
-        sink: lines::put_reading(sink, out, plan::read(file)),
+        sink: lines::put_reading(talk.sink, out, plan::read(file)),
+        ..talk
     }
 }
 
@@ -57,13 +54,10 @@ pub fn answer_mark(
     ensures output { (result.sink, out.new) ≡ put_each (talk.sink, out.old)
         (marking_texts (mark_of file.now workers (records_in journal.now) mem.old)) }
 {
-    let run = talk.run;
-    let sink = talk.sink;
     let marking = journal_file::mark_file(file, workers, journal, mem);
     Talk {
-        run: run,
-        lent: talk.lent,
-        sink: lines::put_marking(sink, out, marking),
+        sink: lines::put_marking(talk.sink, out, marking),
+        ..talk
     }
 }
 
@@ -73,26 +67,22 @@ fn open_run(talk: Talk, file: &[u8], workers: u16, mem: &mut [u16], out: &mut [u
     ensures { (cells figures : List ℕ) → held_of result mem.new cells figures out.new ≡
         opened_in file.now workers (held_of talk mem.old cells figures out.old) }
 {
-    let sink = talk.sink;
     let opened = opening::open(file, workers, mem);
-    let answer = opened.answer;
-    let state = opened.state;
-    let run = rounding::without_rounding(state);
     Talk {
-        run: run,
+        run: rounding::without_rounding(opened.state),
         lent: 0,
-        sink: lines::put_opening(sink, out, answer),
+        sink: lines::put_opening(talk.sink, out, opened.answer),
     }
 }
 
 // How many cells are lent after an opening.
 #[tactic(auto, using(crate::proofs::Laws::lent_all, crate::proofs::Laws::lent_none))]
-fn lent_after(answer: Opening, many: usize) -> usize
+fn lent_after(answer: Result<(), Refusal>, many: usize) -> usize
     ensures { result ≡ if (is_accepted answer) many 0 }
 {
     match answer {
-        Opening::Accepted => many,
-        Opening::Refused(_) => 0,
+        Ok(()) => many,
+        Err(_) => 0,
     }
 }
 
@@ -112,27 +102,21 @@ pub fn answer_open_rounded(
         opened_rounded_in file.now asked many
         (held_of talk mem.old cells.now figures.old out.old) }
 {
-    let sink = talk.sink;
-    let pipe = asked.pipe;
-    let base = asked.base;
-    let m = at_most(many, cells.len());
-    let n = at_most(many, figures.len());
+    let m = many.min(cells.len());
+    let n = many.min(figures.len());
     let opened = rounded_opening::open_rounded(
         file,
         asked.workers,
-        pipe,
-        base,
+        asked.pipe,
+        asked.base,
         mem,
         &cells[..m],
         &mut figures[..n],
     );
-    let answer = opened.answer;
-    let run = opened.run;
-    let lent = lent_after(answer, many);
     Talk {
-        run: run,
-        lent: lent,
-        sink: lines::put_opening(sink, out, answer),
+        run: opened.run,
+        lent: lent_after(opened.answer, many),
+        sink: lines::put_opening(talk.sink, out, opened.answer),
     }
 }
 
@@ -142,12 +126,9 @@ fn tell(talk: Talk, text: &[u8], out: &mut [u8]) -> Talk
     ensures { (m cells figures : List ℕ) → held_of result m cells figures out.new ≡
         told (text.now ∷ []) (held_of talk m cells figures out.old) }
 {
-    let run = talk.run;
-    let sink = talk.sink;
     Talk {
-        run: run,
-        lent: talk.lent,
-        sink: sink.put(out, text),
+        sink: talk.sink.put(out, text),
+        ..talk
     }
 }
 
@@ -157,13 +138,10 @@ fn tell_figures(talk: Talk, figures: &[u32], out: &mut [u8]) -> Talk
     ensures { (m cells : List ℕ) → held_of result m cells figures.now out.new ≡
         figures_in (held_of talk m cells figures.now out.old) }
 {
-    let run = talk.run;
-    let sink = talk.sink;
-    let n = at_most(talk.lent, figures.len());
+    let n = talk.lent.min(figures.len());
     Talk {
-        run: run,
-        lent: talk.lent,
-        sink: printing::put_figures(sink, out, b"C", &figures[..n]),
+        sink: printing::put_line(talk.sink, out, b"C", &figures[..n]),
+        ..talk
     }
 }
 
@@ -173,13 +151,10 @@ fn tell_sum(talk: Talk, out: &mut [u8]) -> Talk
     ensures { (m cells figures : List ℕ) → held_of result m cells figures out.new ≡
         sum_in (held_of talk m cells figures out.old) }
 {
-    let run = talk.run;
-    let sink = talk.sink;
-    let numbers = [run.rounding.sum as u64];
+    let numbers = [talk.run.rounding.sum];
     Talk {
-        run: run,
-        lent: talk.lent,
-        sink: printing::put_line(sink, out, b"T", &numbers),
+        sink: printing::put_line(talk.sink, out, b"T", &numbers),
+        ..talk
     }
 }
 
@@ -190,12 +165,14 @@ fn tell_end(talk: Talk, out: &mut [u8]) -> Talk
         ended_in (held_of talk m cells figures out.old) }
 {
     if state::ended(talk.run.state) {
-        return tell(talk, b"E\n", out);
+        tell(talk, b"E\n", out)
+    } else {
+        tell(talk, b"O\n", out)
     }
-    tell(talk, b"O\n", out)
 }
 
 // Any command but those that read a file and `quit`, which are left to the program: it reads the file, and ends.
+// (No struct of the lent buffers: choices.rt says why.)
 pub fn answer(
     talk: Talk,
     command: Command,
@@ -217,9 +194,6 @@ pub fn answer(
         Command::Sum => tell_sum(talk, out),
         Command::Ended => tell_end(talk, out),
         Command::Unknown => tell(talk, b"?\n", out),
-        Command::Plan(_) => talk,
-        Command::OpenRounded(_) => talk,
-        Command::Mark(_) => talk,
-        Command::Quit => talk,
+        Command::Plan(_) | Command::OpenRounded(_) | Command::Mark(_) | Command::Quit => talk,
     }
 }

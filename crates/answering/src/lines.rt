@@ -6,8 +6,7 @@ ghost use Rattle.marking.specs.Marking.{verdict_of};
 ghost use Rattle.answering.specs.Lines.{header_texts, reading_texts, opening_texts, wrong_texts, marking_texts};
 
 use marking::Marking;
-use opening::Opening;
-use plan::{Header, Reading};
+use plan::Header;
 use printing::Sink;
 use vocabulary::Refusal;
 
@@ -16,35 +15,33 @@ use vocabulary::Refusal;
 fn put_header(sink: Sink, out: &mut [u8], h: Header) -> Sink
     ensures { (result, out.new) ≡ put_each (sink, out.old) (header_texts h) }
 {
-    let numbers = [
-        h.pipes as u64,
-        h.lines as u64,
-        h.tokens as u64,
-        h.records as u64,
-        h.edition as u64,
-    ];
-    printing::put_line(sink, out, b"P", &numbers)
+    printing::put_line(
+        sink,
+        out,
+        b"P",
+        &[h.pipes, h.lines, h.tokens, h.records, h.edition],
+    )
 }
 
 // Of a plan that was read its header, or `R n`.
 #[tactic(auto, unfolding(crate::specs::Lines::reading_texts))]
-pub(crate) fn put_reading(sink: Sink, out: &mut [u8], reading: Reading) -> Sink
+pub(crate) fn put_reading(sink: Sink, out: &mut [u8], reading: Result<Header, Refusal>) -> Sink
     ensures { (result, out.new) ≡ put_each (sink, out.old) (reading_texts reading) }
 {
     match reading {
-        Reading::Accepted(h) => put_header(sink, out, h),
-        Reading::Refused(why) => printing::put_refusal(sink, out, why),
+        Ok(h) => put_header(sink, out, h),
+        Err(why) => printing::put_refusal(sink, out, why),
     }
 }
 
 // `A` or `R n`
 #[tactic(auto, using(crate::proofs::Laws::opens), unfolding(crate::specs::Lines::opening_texts))]
-pub(crate) fn put_opening(sink: Sink, out: &mut [u8], answer: Opening) -> Sink
+pub(crate) fn put_opening(sink: Sink, out: &mut [u8], answer: Result<(), Refusal>) -> Sink
     ensures { (result, out.new) ≡ put_each (sink, out.old) (opening_texts answer) }
 {
     match answer {
-        Opening::Accepted => sink.put(out, b"A\n"),
-        Opening::Refused(why) => printing::put_refusal(sink, out, why),
+        Ok(()) => sink.put(out, b"A\n"),
+        Err(why) => printing::put_refusal(sink, out, why),
     }
 }
 
@@ -53,9 +50,7 @@ pub(crate) fn put_opening(sink: Sink, out: &mut [u8], answer: Opening) -> Sink
 fn put_wrong(sink: Sink, out: &mut [u8], i: usize, why: Refusal) -> Sink
     ensures { (result, out.new) ≡ put_each (sink, out.old) (wrong_texts i (number_of why)) }
 {
-    let number = why.number() as u64;
-    let numbers = [i as u64, number];
-    printing::put_line(sink, out, b"wrong", &numbers)
+    printing::put_line(sink, out, b"wrong", &[i, usize::from(why.number())])
 }
 
 // `complete`, `correct so far`, `wrong i n` or `R n`

@@ -8,11 +8,11 @@ use borrow.Author.Tests.{le-leb, lt-ltb, le-ltb, eq-eqb, ne_eqb}
 use lib.ListN.{length, take, drop, set, length-drop}
 use lib.Seq.{length-take-le, take-nil, take_at, drop-drop}
 use Rattle.rules.specs.Lists.{must, has}
-use Rattle.words.specs.Words.{up_to}
-use Rattle.words.proofs.Walks.{has_stop}
+use Rattle.words.proofs.Walks.{first_some}
+use Rattle.std.specs.Prelude.{Option, Some, None, IfSome, position, nat_eq}
 use Rattle.serving.specs.Lines.{moved_up}
 use Rattle.console.specs.declared.input.Input.{Input}
-use Rattle.console.specs.Inputs.{Within, Arrived, more, last, pending, read_up_to, input_from, last_input, too_long, passed_line, passed_long, ended_with}
+use Rattle.console.specs.Inputs.{Within, WholeLine, Arrived, more, last, pending, read_up_to, input_from, last_input, too_long, passed_line, passed_long, ended_with}
 
 keeps : {A : Type 0} (b : Bool) (x : A) {y r : A} → b ≡ true → r ≡ y → r ≡ must b x y
 keeps b x e r-is = rw e r-is
@@ -25,21 +25,22 @@ module _ (i : Input) (buffer : List ℕ) (w : Within (length buffer) i) where
   pub pending_length : length (pending i buffer) ≡ i.end - i.at
   pending_length = length-take-le (i.end - i.at) (drop i.at buffer) (simp length-drop (omega arith))
 
-  -- the rest of a line
-  module _ {size : ℕ} (size_is : size ≡ length (up_to 10 (pending i buffer))) where
-    pub passed_all : i.end - i.at ≤ size → {r : Input} → r ≡ too_long i → r ≡ passed_line i (pending i buffer)
-    unfolding passed_line
-    passed_all h r-is =
-        leaves (has (pending i buffer) 10) _
-        (has_stop 10 (pending i buffer) ∙ le-ltb (length (up_to 10 (pending i buffer))) (length (pending i buffer)) (omega (arith, pending_length))) r-is
+  -- a newline in it ends a whole line
+  pub whole_line : (found : Option ℕ) → found ≡ position (λ b. nat_eq b 10) (pending i buffer) → IfSome found (WholeLine i buffer)
+  whole_line None e = tt
+  whole_line (Some size) e =
+      let first = first_some 10 (pending i buffer) size e in
+      record { some = first.0; size_is = first.1; within = omega (arith, first.2, pending_length) }
 
-    pub passed_some : size < i.end - i.at →
-        ◌≡◌ {A = Input} (record { at = i.at + size + 1; end = i.end; skips = false; ended = i.ended }) (passed_line i (pending i buffer))
-    unfolding passed_line
-    passed_some h =
-        keeps (has (pending i buffer) 10) _
-        (has_stop 10 (pending i buffer) ∙ lt-ltb (length (up_to 10 (pending i buffer))) (length (pending i buffer)) (omega (arith, pending_length)))
-        (ap (λ n. record { at = i.at + n + 1; end = i.end; skips = false; ended = i.ended }) size_is)
+  -- the rest of a line
+  pub passed_all : has (pending i buffer) 10 ≡ false → {r : Input} → r ≡ too_long i → r ≡ passed_line i (pending i buffer)
+  unfolding passed_line
+  passed_all none r-is = rw none r-is
+
+  pub passed_some : {size : ℕ} → WholeLine i buffer size →
+      ◌≡◌ {A = Input} (record { at = i.at + size + 1; end = i.end; skips = false; ended = i.ended }) (passed_line i (pending i buffer))
+  unfolding passed_line
+  passed_some line = rw (line.some, ← line.size_is)
 
 module _ (i : Input) (text : List ℕ) where
   pub skips : i.skips ≡ true → {r : Input} → r ≡ passed_line i text → r ≡ passed_long i text

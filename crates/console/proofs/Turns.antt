@@ -2,16 +2,15 @@
 use mathlib.Core.Path.{◌≡◌, refl, sym, ap, ◌∙◌}
 use mathlib.Core.Bool.{true, false}
 use mathlib.Core.List.{List, ◌++◌}
-use Prim.Native.Nat.{ℕ, ◌+◌, ◌-◌, ◌<◌, ◌≤◌}
+use Prim.Native.Nat.{ℕ, ◌+◌, ◌-◌, ◌≤◌}
 use native.Mathlib.Omega.{arith}
-use borrow.Author.Tests.{lt-ltb, le-ltb}
 use lib.ListN.{length, take, drop}
 use lib.Seq.{take-take}
 use Rattle.rules.specs.Lists.{has}
 use Rattle.sink.specs.declared.Sink.{Sink}
 use Rattle.sink.specs.Sinks.{flushed_of}
 use Rattle.words.specs.Words.{up_to}
-use Rattle.words.proofs.Walks.{up_to_is, has_stop}
+use Rattle.words.proofs.Walks.{up_to_is}
 use Rattle.commands.specs.Commands.{command_of}
 use Rattle.commands.specs.declared.RoundingAt.{RoundingAt}
 use Rattle.commands.specs.declared.Command.{Command}
@@ -22,10 +21,10 @@ use Rattle.serving.specs.Serving.{for_program}
 use Rattle.serving.proofs.Cutting.{served_own_line}
 use Rattle.console.specs.declared.input.Input.{Input}
 use Rattle.console.specs.declared.Console.{Console}
-use Rattle.console.specs.Inputs.{Within, Arrived, pending}
+use Rattle.console.specs.Inputs.{WholeLine, Arrived, pending}
 use Rattle.console.specs.Consoles.{console_from, refused_long}
 use Rattle.console.specs.Turns.{Lent, lent_of, Rounded, Whole, whole, holding, served_of, left_by, Answered, Obeyed, Waited, reads, Turned, next_line, no_line}
-use Rattle.console.proofs.Inputs.{pending_length, pending_from}
+use Rattle.console.proofs.Inputs.{pending_from}
 
 -- the same line, obeyed by the same console; and the same wait
 module _ {c d : Console} {out before : List ℕ} {r : Console} {rest after : List ℕ} where
@@ -67,32 +66,27 @@ waited_reads c buffer out e f s a = reads f (rw (← e, s)) (rw (← e)) (rw (�
 
 -- a turn
 module _ {c : Console} {file : List ℕ} {lent : Lent} (buffer : List ℕ) {out : List ℕ} {left : Console} {lent' : Lent} {out' : List ℕ}
-    (a : Answered (whole c file lent buffer out) left lent' out') (w : Within (length buffer) left.input)
-    {size : ℕ} (size_is : size ≡ length (up_to 10 (pending left.input buffer))) where
+    (a : Answered (whole c file lent buffer out) left lent' out') where
   abbrev text : Console → List ℕ
   text x = pending x.input buffer
 
-  pub turned_wait : left.input.end - left.input.at ≤ size → {r : Console} {buffer' after : List ℕ} → Waited left buffer out' r buffer' after →
+  pub turned_wait : has (text left) 10 ≡ false → {r : Console} {buffer' after : List ℕ} → Waited left buffer out' r buffer' after →
       Turned (whole c file lent buffer out) (whole r file lent' buffer' after)
-  turned_wait h o =
-      let none : has (text left) 10 ≡ false = has_stop 10 (text left) ∙
-      le-ltb (length (up_to 10 (text left))) (length (text left)) (omega (arith, pending_length left.input buffer w)) in
+  turned_wait none o =
       no_line a.served a.is_served (ap (λ (x : Console). has (text x) 10) (sym a.console) ∙ none)
       (waited_as (sym a.console) (sym a.output_is) o) a.lent_is refl
 
-  pub turned_line : size < left.input.end - left.input.at → {r : Console} {file' : List ℕ} {lent'' : Lent} {after : List ℕ} →
+  pub turned_line : {size : ℕ} → WholeLine left.input buffer size → {r : Console} {file' : List ℕ} {lent'' : Lent} {after : List ℕ} →
       Obeyed (command_of (take size (drop left.input.at buffer))) (console_from left (left.input.at + size + 1)) file lent' out' r file' lent'' after →
       Turned (whole c file lent buffer out) (whole r file' lent'' buffer after)
-  turned_line h o =
-      let some : has (text left) 10 ≡ true = has_stop 10 (text left) ∙
-      lt-ltb (length (up_to 10 (text left))) (length (text left)) (omega (arith, pending_length left.input buffer w)) in
-      let fits : size ≤ left.input.end - left.input.at = omega arith in
+  turned_line {size} first o =
+      let fits : size ≤ left.input.end - left.input.at = omega (arith, first.within) in
       let line : up_to 10 (text left) ≡ take size (drop left.input.at buffer) = sym (up_to_is 10 (text left)) ∙
-      ap (λ n. take n (text left)) (sym size_is) ∙ take-take size (left.input.end - left.input.at) (drop left.input.at buffer) fits in
-      next_line a.served a.is_served (ap (λ (x : Console). has (text x) 10) (sym a.console) ∙ some)
+      ap (λ n. take n (text left)) (sym first.size_is) ∙ take-take size (left.input.end - left.input.at) (drop left.input.at buffer) fits in
+      next_line a.served a.is_served (ap (λ (x : Console). has (text x) 10) (sym a.console) ∙ first.some)
       (obeyed_as (ap (λ (x : Console). command_of (up_to 10 (text x))) (sym a.console) ∙ ap command_of line)
       (ap (λ (x : Console). console_from x (x.input.at + length (up_to 10 (text x)) + 1)) (sym a.console) ∙
-      ap (λ n. console_from left (left.input.at + n + 1)) (sym size_is)) (sym a.lent_is) (sym a.output_is) o) refl
+      ap (λ n. console_from left (left.input.at + n + 1)) (sym first.size_is)) (sym a.lent_is) (sym a.output_is) o) refl
 
 -- a whole line that is left is the program's own: none is passed over without an answer
 pub left_is_own : (a : Whole) → has (pending (left_by a.console (served_of a)).input a.buffer) 10 ≡ true →

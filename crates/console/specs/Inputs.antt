@@ -1,5 +1,5 @@
 -- Standard input in its buffer, of which a part is not served yet.
-use Rattle.std.specs.Prelude.{◌≡◌, true, false, List, ◌++◌, ℕ, ◌+◌, ◌-◌, ◌≤◌, eqb, ltb, length, take, drop, set}
+use Rattle.std.specs.Prelude.{◌≡◌, true, false, List, ◌++◌, ℕ, ◌+◌, ◌-◌, ◌<◌, ◌≤◌, eqb, ltb, length, take, drop, set}
 use Rattle.rules.specs.Lists.{must, must_not, has}
 use Rattle.words.specs.Words.{up_to}
 use Rattle.console.specs.declared.input.Input.{Input}
@@ -12,6 +12,12 @@ pub record Within (size : ℕ) (i : Input) : Type 0 where
 -- the part
 abbrev pub pending : Input → List ℕ → List ℕ
 pending i buffer = take (i.end - i.at) (drop i.at buffer)
+
+-- a whole line is there, of so many bytes before its newline
+pub record WholeLine (i : Input) (buffer : List ℕ) (size : ℕ) : Type 0 where
+  pub some : has (pending i buffer) 10 ≡ true
+  pub size_is : size ≡ length (up_to 10 (pending i buffer))
+  pub within : i.at + size < i.end
 
 -- nothing is read yet; the last that is read
 abbrev pub no_input : Input

@@ -1,16 +1,16 @@
 // Standard input: a buffer, of which a part is not served yet.
-ghost use Rattle.std.specs.Prelude.{◌≡◌, ◌+◌, ◌≤◌, length};
+ghost use Rattle.std.specs.Prelude.{◌≡◌, ◌+◌, ◌≤◌, false, length, IfNone, IfSome};
+ghost use Rattle.rules.specs.Lists.{has};
 ghost use Rattle.io.specs.Counts.{IsPrefixLen};
-ghost use Rattle.words.specs.Words.{up_to};
-ghost use Rattle.console.specs.Inputs.{Within, Arrived, pending, no_input, last_input, input_from, too_long, passed_line, passed_long, ended_with};
+ghost use Rattle.console.specs.Inputs.{Within, WholeLine, Arrived, pending, no_input, last_input, input_from, too_long, passed_line, passed_long, ended_with};
 
 use std::io::Read;
 use std::rt::Stdin;
 
-const NEWLINE: u8 = 10;
+const NEWLINE: u8 = b'\n';
 
 // The input that is not served yet, from `at` up to `end`; whether the rest of a line that is too long is passed over; and whether the
-// input has ended.
+// input has ended. The buffer is lent beside it (no heap, fixed memory): so `Within` is in the contracts, and no invariant of this type.
 #[derive(Clone, Copy)]
 pub struct Input {
     pub at: usize,
@@ -37,10 +37,9 @@ impl Input {
         ensures { result ≡ last_input end }
     {
         Self {
-            at: 0,
-            end: end,
-            skips: false,
+            end,
             ended: true,
+            ..Self::none()
         }
     }
 
@@ -48,12 +47,7 @@ impl Input {
     pub(crate) fn from(self, at: usize) -> Self
         ensures { result ≡ input_from self at }
     {
-        Self {
-            at: at,
-            end: self.end,
-            skips: self.skips,
-            ended: self.ended,
-        }
+        Self { at, ..self }
     }
 
     // Nothing is left, and the rest of the line is to be passed over.
@@ -62,65 +56,68 @@ impl Input {
     {
         Self {
             at: self.end,
-            end: self.end,
             skips: true,
-            ended: self.ended,
+            ..self
+        }
+    }
+
+    // The part that is not served yet.
+    pub(crate) fn pending(self, buffer: &[u8]) -> &[u8]
+        requires { Within (length buffer.now) self }
+        ensures { result.now ≡ pending self buffer.now }
+    {
+        &buffer[self.at..self.end]
+    }
+
+    // How many bytes stand before the next newline, if there is one.
+    #[tactic(auto, using(words::proofs::Walks::first_none))]
+    pub(crate) fn line_size(self, buffer: &[u8]) -> Option<usize>
+        requires { Within (length buffer.now) self }
+        ensures none { IfNone result (has (pending self buffer.now) 10 ≡ false) }
+        ensures some { IfSome result (WholeLine self buffer.now) }
+    {
+        words::first(self.pending(buffer), NEWLINE)
+    }
+
+    // Passes over the rest of a line.
+    #[tactic(auto, using(crate::proofs::Inputs::passed_all))]
+    fn past_line(self, buffer: &[u8]) -> Self
+        requires { Within (length buffer.now) self }
+        ensures within { Within (length buffer.now) result }
+        ensures passes { result ≡ passed_line self (pending self buffer.now) }
+    {
+        let Some(size) = self.line_size(buffer) else {
+            return self.too_long();
+        };
+        Self {
+            at: self.at + size + 1,
+            skips: false,
+            ..self
+        }
+    }
+
+    // Passes over the rest of a line that is too long.
+    #[tactic(auto, using(crate::proofs::Inputs::skips, crate::proofs::Inputs::skips_not))]
+    fn past_long(self, buffer: &[u8]) -> Self
+        requires { Within (length buffer.now) self }
+        ensures within { Within (length buffer.now) result }
+        ensures passes { result ≡ passed_long self (pending self buffer.now) }
+    {
+        if self.skips {
+            self.past_line(buffer)
+        } else {
+            self
         }
     }
 }
 
-// How many bytes stand before the next newline; all where there is none.
-pub(crate) fn line_size(input: Input, buffer: &[u8]) -> usize
-    requires { Within (length buffer.now) input }
-    ensures within { input.at + result ≤ input.end }
-    ensures size { result ≡ length (up_to 10 (pending input buffer.now)) }
-{
-    let at = input.at;
-    let end = input.end;
-    words::find(&buffer[at..end], NEWLINE)
-}
-
-// Passes over the rest of a line.
-fn past_line(input: Input, buffer: &[u8]) -> Input
-    requires { Within (length buffer.now) input }
-    ensures within { Within (length buffer.now) result }
-    ensures passes { result ≡ passed_line input (pending input buffer.now) }
-{
-    let at = input.at;
-    let end = input.end;
-    let size = line_size(input, buffer);
-    if end - at <= size {
-        return input.too_long();
-    }
-    Input {
-        at: at + size + 1,
-        end: end,
-        skips: false,
-        ended: input.ended,
-    }
-}
-
-// Passes over the rest of a line that is too long.
-fn past_long(input: Input, buffer: &[u8]) -> Input
-    requires { Within (length buffer.now) input }
-    ensures within { Within (length buffer.now) result }
-    ensures passes { result ≡ passed_long input (pending input buffer.now) }
-{
-    if input.skips {
-        return past_line(input, buffer);
-    }
-    input
-}
-
 // The input has ended: a newline ends what is left, the last line.
+#[tactic(auto, using(crate::proofs::Inputs::ended_none, crate::proofs::Inputs::ended_full, crate::proofs::Inputs::ended_line))]
 fn end_last(kept: usize, buffer: &mut [u8]) -> Input
     ensures within { Within (length buffer.new) result }
     ensures ends { (result, buffer.new) ≡ ended_with kept buffer.old }
 {
-    if kept == 0 {
-        return Input::last(0);
-    }
-    if buffer.len() <= kept {
+    if kept == 0 || buffer.len() <= kept {
         return Input::last(0);
     }
     buffer[kept] = NEWLINE;
@@ -128,14 +125,10 @@ fn end_last(kept: usize, buffer: &mut [u8]) -> Input
 }
 
 // Reads some of the input to the front of a buffer; no bytes where it has ended, and where it can't be read.
-fn read_some(stdin: Stdin, buffer: &mut [u8]) -> usize
+fn read_some(mut stdin: Stdin, buffer: &mut [u8]) -> usize
     ensures { IsPrefixLen result buffer.new }
 {
-    let mut input = stdin;
-    match input.read(buffer) {
-        Ok(count) => count,
-        Err(_) => 0,
-    }
+    stdin.read(buffer).unwrap_or(0)
 }
 
 // Reads more of the input, behind what is left of it.
@@ -152,8 +145,8 @@ pub(crate) fn read_more(stdin: Stdin, input: Input, buffer: &mut [u8]) -> Input
     let more = Input {
         at: 0,
         end: kept + count,
-        skips: input.skips,
         ended: false,
+        ..input
     };
-    past_long(more, buffer)
+    more.past_long(buffer)
 }

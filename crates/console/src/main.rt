@@ -12,13 +12,14 @@ ghost use Rattle.console.specs.Consoles.{Kept, begun, finished, console_from, re
 ghost use Rattle.console.specs.Turns.{Answered, Planned, Rounded, Marked, Obeyed, fresh_numbers, Waited, Turned, Turns, lent_of, whole};
 
 use answering::Talk;
-use commands::{Command, MOST_OF_LINE, RoundingAt};
+use commands::{Command, JournalAt, MOST_OF_LINE, RoundingAt};
 use input::Input;
 use printing::Sink;
 use std::rt::Stdin;
 
 // What the console keeps beside its buffers: the run and its output, the plan file's size, which input is not served yet, and whether
-// all is done.
+// all is done. The buffers are lent to each call, and their lengths stand here (no heap, fixed memory): so what `Kept` says of both is
+// in the contracts, and no invariant of a type.
 #[derive(Clone, Copy)]
 pub struct Console {
     pub talk: Talk,
@@ -37,23 +38,22 @@ fn take_plan(
 ) -> Console
     ensures { Planned was out.old result file.new out.new }
 {
-    let talk = was.talk;
-    let input = was.input;
     let size = files::read(rt, path, file);
-    let told = answering::answer_plan(talk, &file[..size], out);
-    Console {
-        talk: told,
-        size: size,
-        input: input,
-        done: was.done,
-    }
+    let talk = answering::answer_plan(was.talk, &file[..size], out);
+    Console { talk, size, ..was }
 }
 
-// A buffer for a file of cells: it takes one cell more than a plan can have tokens.
-fn cells_buffer() -> [u8; 16388]
-    ensures { 16388 ≡ length result }
+// The most bytes that are read of a file of cells: one cell more than a plan can have tokens.
+const CELL_BYTES: usize = 16388;
+
+// The most bytes that are read of a journal: one record more than a run can have.
+const JOURNAL_BYTES: usize = 1441814;
+
+// A buffer for a file.
+fn file_buffer<const N: usize>() -> [u8; N]
+    ensures { N ≡ length result }
 {
-    [0; 16388]
+    [0; N]
 }
 
 // `open W PIPE BASE PATH`: the cells are kept for later choices.
@@ -72,15 +72,12 @@ fn take_cells(
     ensures { Rounded asked was file.now (lent_of mem.old cells.old figures.old) out.old
         result (lent_of mem.new cells.new figures.new) out.new }
 {
-    let talk = was.talk;
-    let input = was.input;
-    let size = was.size;
-    let mut bytes = cells_buffer();
+    let mut bytes = file_buffer::<CELL_BYTES>();
     let found = files::read(rt, path, &mut bytes);
     let many = cells::read_cells(&bytes[..found], cells);
-    let told = answering::answer_open_rounded(
-        talk,
-        &file[..size],
+    let talk = answering::answer_open_rounded(
+        was.talk,
+        &file[..was.size],
         asked,
         many,
         mem,
@@ -88,12 +85,7 @@ fn take_cells(
         figures,
         out,
     );
-    Console {
-        talk: told,
-        size: size,
-        input: input,
-        done: was.done,
-    }
+    Console { talk, ..was }
 }
 
 // Lent numbers for the run of a journal.
@@ -102,13 +94,6 @@ fn fresh_numbers() -> [u16; 32768]
     ensures zeros { result ≡ fresh_numbers }
 {
     [0; 32768]
-}
-
-// A buffer for a journal: it takes one record more than a run can have.
-fn journal_buffer() -> [u8; 1441814]
-    ensures { 1441814 ≡ length result }
-{
-    [0; 1441814]
 }
 
 // `mark W PATH`: the journal is marked in lent numbers of its own.
@@ -123,40 +108,25 @@ fn take_journal(
     requires { was.size ≤ length file.now }
     ensures { Marked workers was file.now out.old result out.new }
 {
-    let talk = was.talk;
-    let input = was.input;
-    let size = was.size;
-    let mut journal = journal_buffer();
+    let mut journal = file_buffer::<JOURNAL_BYTES>();
     let mut mem = fresh_numbers();
     let count = files::read(rt, path, &mut journal);
-    let told = answering::answer_mark(
-        talk,
-        &file[..size],
+    let talk = answering::answer_mark(
+        was.talk,
+        &file[..was.size],
         workers,
         &journal[..count],
         &mut mem,
         out,
     );
-    Console {
-        talk: told,
-        size: size,
-        input: input,
-        done: was.done,
-    }
+    Console { talk, ..was }
 }
 
 // After `quit`, and after the last line of the input, nothing more is done.
 fn finish(was: Console) -> Console
     ensures { result ≡ finished was }
 {
-    let talk = was.talk;
-    let input = was.input;
-    Console {
-        talk: talk,
-        size: was.size,
-        input: input,
-        done: true,
-    }
+    Console { done: true, ..was }
 }
 
 // Does what a line asks for that is the program's own; only such a line is left by `serve` (`left_is_own`).
@@ -178,33 +148,29 @@ fn obey(
 {
     match commands::parse(line) {
         Command::Plan(start) => take_plan(rt, was, &line[start..], file, out),
-        Command::OpenRounded(asked) => {
-            let start = asked.start;
-            take_cells(
-                rt,
-                was,
-                asked,
-                &line[start..],
-                file,
-                mem,
-                cells,
-                figures,
-                out,
-            )
-        }
-        Command::Mark(journal) => {
-            let start = journal.start;
-            take_journal(rt, was, journal.workers, &line[start..], file, out)
+        Command::OpenRounded(asked) => take_cells(
+            rt,
+            was,
+            asked,
+            &line[asked.start..],
+            file,
+            mem,
+            cells,
+            figures,
+            out,
+        ),
+        Command::Mark(JournalAt { workers, start }) => {
+            take_journal(rt, was, workers, &line[start..], file, out)
         }
         Command::Quit => finish(was),
-        Command::Open(_) => was,
-        Command::Choose(_) => was,
-        Command::Offer(_) => was,
-        Command::Take(_) => was,
-        Command::Figures => was,
-        Command::Sum => was,
-        Command::Ended => was,
-        Command::Unknown => was,
+        Command::Open(_)
+        | Command::Choose(_)
+        | Command::Offer(_)
+        | Command::Take(_)
+        | Command::Figures
+        | Command::Sum
+        | Command::Ended
+        | Command::Unknown => was,
     }
 }
 
@@ -227,15 +193,11 @@ fn own_line(
         file.old (lent_of mem.old cells.old figures.old) out.old
         result file.new (lent_of mem.new cells.new figures.new) out.new }
 {
-    let talk = was.talk;
-    let input = was.input;
-    let at = input.at;
+    let at = was.input.at;
     let stop = at + size;
     let next = Console {
-        talk: talk,
-        size: was.size,
-        input: input.from(stop + 1),
-        done: was.done,
+        input: was.input.from(stop + 1),
+        ..was
     };
     obey(rt, next, &buffer[at..stop], file, mem, cells, figures, out)
 }
@@ -246,23 +208,16 @@ fn refuse_long(was: Console, out: &mut [u8]) -> Console
     ensures size { result.size ≡ was.size }
     ensures refuses { (result, out.new) ≡ refused_long was out.old }
 {
-    let talk = was.talk;
-    let input = was.input;
-    if input.end - input.at <= MOST_OF_LINE {
+    if was.input.end - was.input.at <= MOST_OF_LINE {
         return was;
     }
-    let run = talk.run;
-    let sink = talk.sink;
-    let told = sink.put(out, b"?\n");
     Console {
         talk: Talk {
-            run: run,
-            lent: talk.lent,
-            sink: told,
+            sink: was.talk.sink.put(out, b"?\n"),
+            ..was.talk
         },
-        size: was.size,
-        input: input.too_long(),
-        done: was.done,
+        input: was.input.too_long(),
+        ..was
     }
 }
 
@@ -276,20 +231,13 @@ fn wait(stdin: Stdin, was: Console, buffer: &mut [u8], out: &mut [u8]) -> Consol
         return finish(was);
     }
     let left = refuse_long(was, out);
-    let talk = left.talk;
-    let run = talk.run;
-    let sink = talk.sink;
-    let input = left.input;
-    let written = sink.flush(out);
     Console {
         talk: Talk {
-            run: run,
-            lent: talk.lent,
-            sink: written,
+            sink: left.talk.sink.flush(out),
+            ..left.talk
         },
-        size: left.size,
-        input: input::read_more(stdin, input, buffer),
-        done: left.done,
+        input: input::read_more(stdin, left.input, buffer),
+        ..left
     }
 }
 
@@ -308,26 +256,19 @@ fn answer_lines(
     ensures serves { Answered (whole was file.now (lent_of mem.old cells.now figures.old) buffer.now out.old) result
         (lent_of mem.new cells.now figures.new) out.new }
 {
-    let talk = was.talk;
-    let size = was.size;
-    let input = was.input;
-    let at = input.at;
-    let end = input.end;
     let served = serving::serve(
-        talk,
-        &buffer[at..end],
-        &file[..size],
+        was.talk,
+        was.input.pending(buffer),
+        &file[..was.size],
         mem,
         cells,
         figures,
         out,
     );
-    let after = served.talk;
     Console {
-        talk: after,
-        size: size,
-        input: input.from(at + served.at),
-        done: was.done,
+        talk: served.talk,
+        input: was.input.from(was.input.at + served.at),
+        ..was
     }
 }
 
@@ -348,12 +289,10 @@ fn turn(
         (whole result file.new (lent_of mem.new cells.new figures.new) buffer.new out.new) }
 {
     let left = answer_lines(was, file, mem, cells, figures, buffer, out);
-    let input = left.input;
-    let size = input::line_size(input, buffer);
-    if input.end - input.at <= size {
-        return wait(rt.stdin(), left, buffer, out);
+    match left.input.line_size(buffer) {
+        Some(size) => own_line(rt, left, size, file, mem, cells, figures, buffer, out),
+        None => wait(rt.stdin(), left, buffer, out),
     }
-    own_line(rt, left, size, file, mem, cells, figures, buffer, out)
 }
 
 // The state of zeros without rounding, an empty plan file and no input.
@@ -362,11 +301,9 @@ fn begin(mem: &mut [u16]) -> Console
     ensures memory { mem.new ≡ mem.old }
 {
     let none = opening::open(b"", 0, mem);
-    let state = none.state;
-    let run = rounding::without_rounding(state);
     Console {
         talk: Talk {
-            run: run,
+            run: rounding::without_rounding(none.state),
             lent: 0,
             sink: Sink::written(),
         },
@@ -376,8 +313,8 @@ fn begin(mem: &mut [u16]) -> Console
     }
 }
 
-// A proved loop has to end, and nothing says that the input does: so the loop counts its turns down, from a number that no
-// input uses up.
+// A proved loop has to end, and nothing says that the input does: so the loop counts its turns, up to a number that no input
+// uses up.
 fn run(
     rt: &HostRuntime,
     first: Console,
@@ -393,13 +330,10 @@ fn run(
         (whole result file.new (lent_of mem.new cells.new figures.new) buffer.new out.new) }
 {
     let mut now = first;
-    let mut turns = u64::MAX;
-    while turns > 0 {
+    for _ in 0..u64::MAX {
         now = turn(rt, now, file, mem, cells, figures, buffer, out);
         if now.done {
-            turns = 0;
-        } else {
-            turns -= 1;
+            break;
         }
     }
     now
@@ -425,7 +359,5 @@ fn main(rt: HostRuntime) {
         &mut buffer,
         &mut out,
     );
-    let talk = last.talk;
-    let sink = talk.sink;
-    sink.flush(&out);
+    last.talk.sink.flush(&out);
 }

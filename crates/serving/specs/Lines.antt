@@ -1,7 +1,7 @@
 -- The lines of a text, and the rest of a text whose last line is not whole.
-use Rattle.std.specs.Prelude.{List, [], ◌∷◌, ◌++◌, ℕ, ◌-◌, eqb, leb, length, take, drop}
+use Rattle.std.specs.Prelude.{◌≡◌, true, List, [], ◌∷◌, ◌++◌, ℕ, ◌+◌, ◌-◌, eqb, leb, length, take, drop}
 use Rattle.rules.specs.Lists.{if, must, has}
-use Rattle.words.specs.Words.{onto}
+use Rattle.words.specs.Words.{up_to, past, onto}
 
 -- the whole lines of a text: those that a newline (10) ends; a byte that none follows is in no such line
 unfoldable pub lines_in : List ℕ → List (List ℕ)
@@ -19,3 +19,10 @@ moved_up from to s =
     must (leb to (length s)) (0, s)
     (must (leb from to) (0, s)
     (to - from, take (to - from) (drop from s) ++ drop (to - from) s))
+
+-- the first whole line of a text, and what follows its newline
+pub record FirstLine (text line behind : List ℕ) : Type 0 where
+  pub some : has text 10 ≡ true
+  pub line_is : line ≡ up_to 10 text
+  pub behind_is : behind ≡ past 10 text
+  pub size : length line + 1 + length behind ≡ length text

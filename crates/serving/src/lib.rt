@@ -1,15 +1,17 @@
 // The lines of a block of input, each answered in turn, up to one that is the program's own. Nothing here trusts its caller.
 #![tactic(auto)]
 
-ghost use Rattle.std.specs.Prelude.{◌≡◌, ◌≤◌, length};
+ghost use Rattle.std.specs.Prelude.{◌≡◌, ◌+◌, ◌≤◌, false, true, length, MatchOption};
 ghost use Rattle.answering.specs.Answers.{held_of};
-ghost use Rattle.serving.specs.Lines.{lines_in, moved_up};
+ghost use Rattle.rules.specs.Lists.{has};
+ghost use Rattle.words.specs.Words.{up_to, past};
+ghost use Rattle.serving.specs.Lines.{lines_in, moved_up, FirstLine};
 ghost use Rattle.serving.specs.Serving.{for_program, served_from};
 
 use answering::Talk;
 use commands::Command;
 
-const NEWLINE: u8 = 10;
+const NEWLINE: u8 = b'\n';
 
 // How far the text was served, and the run then.
 #[derive(Clone, Copy)]
@@ -22,24 +24,23 @@ pub struct Served {
 fn for_program(command: Command) -> bool
     ensures { result ≡ for_program command }
 {
-    match command {
-        Command::Plan(_) => true,
-        Command::OpenRounded(_) => true,
-        Command::Mark(_) => true,
-        Command::Quit => true,
-        Command::Open(_) => false,
-        Command::Choose(_) => false,
-        Command::Offer(_) => false,
-        Command::Take(_) => false,
-        Command::Figures => false,
-        Command::Sum => false,
-        Command::Ended => false,
-        Command::Unknown => false,
-    }
+    matches!(
+        command,
+        Command::Plan(_) | Command::OpenRounded(_) | Command::Mark(_) | Command::Quit
+    )
 }
 
-// Answers each whole line of a text, up to the first that is the program's own.
-#[tactic(auto, using(words::proofs::Walks::rest_is, crate::proofs::Walk::next_within, crate::proofs::Walk::served_end, crate::proofs::Walk::served_rest, crate::proofs::Walk::served_own, crate::proofs::Walk::served_turn))]
+// The first whole line, and what follows its newline.
+#[tactic(auto, using(words::proofs::Walks::first_none, crate::proofs::Walk::line_within))]
+fn first_line(text: &[u8]) -> Option<(&[u8], &[u8])>
+    ensures { MatchOption result (has text.now 10 ≡ false) (λ cut. FirstLine text.now cut.0.now cut.1.now) }
+{
+    let end = words::first(text, NEWLINE)?;
+    Some((&text[..end], &text[end + 1..]))
+}
+
+// Answers each whole line of a text, up to the first that is the program's own. (No struct of the lent buffers: `choices` of `answering`
+// says why.)
 pub fn serve(
     talk: Talk,
     text: &[u8],
@@ -55,41 +56,30 @@ pub fn serve(
         (held_of talk mem.old cells.now figures.old out.old) }
 {
     let mut now = talk;
-    let mut at: usize = 0;
-    while at < text.len() {
-        let rest = &text[at..];
-        let end = words::find(rest, NEWLINE);
-        if rest.len() <= end {
-            return Served { at: at, talk: now };
-        }
-        let next = at + (end + 1);
-        let command = commands::parse(&rest[..end]);
+    let mut rest = text;
+    while let Some((line, behind)) = first_line(rest) {
+        let command = commands::parse(line);
         if for_program(command) {
-            return Served { at: at, talk: now };
+            break;
         }
         now = answering::answer(now, command, file, mem, cells, figures, out);
-        at = next;
+        rest = behind;
     }
-    Served { at: at, talk: now }
+    Served {
+        at: text.len() - rest.len(),
+        talk: now,
+    }
 }
 
 // Moves the bytes from one place up to another to the front of a buffer, and returns how many they are; none where they are not within it.
-#[tactic(auto, using(crate::proofs::Moving::moved_past, crate::proofs::Moving::moved_none, crate::proofs::Moving::moved_more))]
+#[tactic(auto, using(crate::proofs::Moving::moved_past, crate::proofs::Moving::moved_none))]
 pub fn keep_rest(buffer: &mut [u8], from: usize, to: usize) -> usize
     ensures within { result ≤ length buffer.new }
     ensures moves { (result, buffer.new) ≡ moved_up from to buffer.old }
 {
-    if buffer.len() < to {
+    if buffer.len() < to || to < from {
         return 0;
     }
-    if to < from {
-        return 0;
-    }
-    let count = to - from;
-    let mut i: usize = 0;
-    while i < count {
-        buffer[i] = buffer[from + i];
-        i += 1;
-    }
-    count
+    buffer.copy_within(from..to, 0);
+    to - from
 }

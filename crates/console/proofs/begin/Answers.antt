@@ -6,7 +6,7 @@ use Rattle.console.proofs.begin.Goals as goal
 pub returns-clause-begins : goal.returns-clause-begins
 returns-clause-begins c =
     let state = ap (λ (o : Opened). o.state) (c.open-none.ensures.answer ∙ laws.none_opened c.args.mem.now) in
-    rw (c.without_rounding-run.ensures, state, c.written.ensures, c.none.ensures)
+    rw (c.without_rounding.ensures, state, c.written.ensures, c.none.ensures)
 
 pub returns-clause-memory : goal.returns-clause-memory
 returns-clause-memory c = c.open-none.ensures.memory ∙ laws.none_written c.args.mem.now

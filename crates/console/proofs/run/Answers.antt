@@ -2,11 +2,16 @@ use Rattle.std.proofs.Common.{refl, rules}
 use Rattle.console.specs.Turns.{none, then}
 use Rattle.console.proofs.run.Goals as goal
 
-pub loop-turns-init : goal.loop-turns-init
-loop-turns-init c = (refl, refl, c.requires, none)
+pub loop-init : goal.loop-init
+loop-init c = record { file = refl; buffer = refl; kept = c.requires; turns = none }
 
-pub loop-turns-preserved-then-now : goal.loop-turns-preserved-then-now
-loop-turns-preserved-then-now c = (search rules, search rules, search rules, then c.loop-turns.invariant.3 c.turn-now.ensures.turns)
+pub loop-preserved : goal.loop-preserved
+loop-preserved c = record {
+  file = search rules;
+  buffer = search rules;
+  kept = search rules;
+  turns = then c.loop.invariant.turns c.turn-now.ensures.turns;
+}
 
-pub loop-turns-preserved : goal.loop-turns-preserved
-loop-turns-preserved c = (search rules, search rules, search rules, then c.loop-turns.invariant.3 c.turn-now.ensures.turns)
+pub returns-then-now : goal.returns-then-now
+returns-then-now c = then c.loop.invariant.turns c.turn-now.ensures.turns

@@ -1,12 +1,8 @@
 use Rattle.console.proofs.Turns as laws
 use Rattle.console.proofs.turn.Goals as goal
 
-pub returns-then-input-size-clause-turns : goal.returns-then-input-size-clause-turns
-returns-then-input-size-clause-turns c =
-    laws.turned_wait _ c.answer_lines-left.ensures.serves c.answer_lines-left.ensures.kept.input c.line_size-size.ensures.size
-    c.if-input-size.true c.wait.ensures.waits
+pub returns-in-Some-clause-turns : goal.returns-in-Some-clause-turns
+returns-in-Some-clause-turns c = laws.turned_line _ c.answer_lines-left.ensures.serves c.in-Some.ensures.some c.own_line.ensures.obeys
 
-pub returns-clause-turns : goal.returns-clause-turns
-returns-clause-turns c =
-    laws.turned_line _ c.answer_lines-left.ensures.serves c.answer_lines-left.ensures.kept.input c.line_size-size.ensures.size
-    c.if-input-size.false c.own_line.ensures.obeys
+pub returns-in-None-clause-turns : goal.returns-in-None-clause-turns
+returns-in-None-clause-turns c = laws.turned_wait _ c.answer_lines-left.ensures.serves c.in-None.ensures.none c.wait.ensures.waits

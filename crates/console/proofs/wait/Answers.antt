@@ -7,4 +7,4 @@ read_more-requires c = left_within _ _ c.requires c.refuse_long-left.ensures.ref
 
 pub returns-clause-waits : goal.returns-clause-waits
 returns-clause-waits c =
-    waited_reads _ _ _ c.refuse_long-left.ensures.refuses c.if-was.false c.flush-written.ensures c.read_more.ensures.reads
+    waited_reads _ _ _ c.refuse_long-left.ensures.refuses c.if-was.false c.flush.ensures c.read_more.ensures.reads

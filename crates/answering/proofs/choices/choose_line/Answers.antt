@@ -3,4 +3,4 @@ use Rattle.answering.proofs.choices.choose_line.Goals as goal
 
 pub returns : goal.returns
 returns c =
-    chosen_is _ c.at_most-m.ensures c.at_most-n.ensures c.choose_rounded-chosen.result _ c.put_answer.ensures c.args.choice c.choose_rounded-chosen.ensures
+    chosen_is _ c.min-m.ensures c.min-n.ensures c.choose_rounded-chosen.result _ c.put_answer.ensures c.args.choice c.choose_rounded-chosen.ensures

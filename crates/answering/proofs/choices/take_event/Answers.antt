@@ -3,4 +3,4 @@ use Rattle.answering.proofs.choices.take_event.Goals as goal
 
 pub returns : goal.returns
 returns c =
-    taken_is _ c.at_most-m.ensures c.at_most-n.ensures c.take_rounded-taken.result _ c.put_answer.ensures c.args.event c.take_rounded-taken.ensures
+    taken_is _ c.min-m.ensures c.min-n.ensures c.take_rounded-taken.result _ c.put_answer.ensures c.args.event c.take_rounded-taken.ensures
