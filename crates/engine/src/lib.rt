@@ -41,6 +41,7 @@ fn is_early(f: Figures, slot: Slot, counters: &[u8; 512], l: u16) -> bool
 
 // The look over the state. (Figures, slots and counters stay apart, here and in the calls below: few take all three, and a struct of them would
 // hold the counters by a reference, with a lifetime in each signature.)
+#[inline(always)]
 fn look(
     f: Figures,
     slots: Slots,

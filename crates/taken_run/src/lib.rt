@@ -6,22 +6,22 @@ ghost use Rattle.whole_run.specs.Runs.{run_of};
 
 use engine::Chosen;
 use state::State;
-use vocabulary::{Line, Worker};
+use vocabulary::{Line, Refusal, Worker};
 use whole_run::Way;
 
-// By an offer, and the taking of the event that was offered; where none was, nothing is called. The answer is the offer's.
+// By an offer, and the taking of the event that was offered; where none was, nothing is called. (`take_offered` is this call of
+// `take_record`; a call between would copy the state once more.)
 struct ByTaking;
 
 impl Way for ByTaking {
-    #[tactic(auto, using(crate::proofs::Taking::taken_way, crate::proofs::Taking::refused_way))]
+    #[tactic(auto, using(crate::proofs::Taking::refused_way))]
     fn choose(state: State, mem: &mut [u16], worker: Worker, line: Line) -> Chosen {
-        let answer = engine::offer(state, mem, worker, line);
-        match answer {
-            Ok(event) => Chosen {
-                answer,
-                ..engine::take_offered(state, mem, event)
+        match engine::offer(state, mem, worker, line) {
+            Ok(event) => engine::take_record(state, mem, event.record(), Refusal::OtherEvent),
+            Err(why) => Chosen {
+                answer: Err(why),
+                state,
             },
-            Err(_) => Chosen { answer, state },
         }
     }
 }
