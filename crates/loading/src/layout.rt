@@ -27,7 +27,7 @@ fn lay_records(part: &[u8], mem: &mut [u16])
 {
     let mut rest = part;
     let mut position = 0;
-    // (A `while`: how far the next record is stands in this one, and no iterator of std steps by what it reads.)
+    // (A `while`: an iterator by `from_fn` would keep the rest in a closure, beside these numbers, and be no shorter.)
     while !rest.is_empty() {
         let token = usize::from(field_or_zero(rest, 0));
         let count = field_or_zero(rest, 2);

@@ -14,10 +14,10 @@ Output = Sink × List ℕ
 
 -- at first: to standard output, or to a digest
 unfoldable pub written : Sink
-written = record { at = 0; target = StandardOutput }
+written = record { at = 0; target = StandardOutput; digest = record { lines = 0; sum = 1 } }
 
 unfoldable pub digested : Sink
-digested = record { at = 0; target = Digested (record { lines = 0; sum = 1 }) }
+digested = record { at = 0; target = Digested; digest = record { lines = 0; sum = 1 } }
 
 -- the sum with one byte more, and the number of lines, which wraps at 2^64
 unfoldable pub mixed : ℕ → ℕ → ℕ
@@ -34,13 +34,13 @@ abbrev pub digest_of : Digest → List ℕ → Digest
 digest_of = fold with_byte
 
 -- bytes that are handed on; none waits then
-abbrev pub handed_on : Target → List ℕ → Sink
-handed_on StandardOutput bytes = written
-handed_on (Digested d) bytes = record { at = 0; target = Digested (digest_of d bytes) }
+abbrev pub handed_on : Target → Digest → List ℕ → Sink
+handed_on StandardOutput d bytes = written
+handed_on Digested d bytes = record { at = 0; target = Digested; digest = digest_of d bytes }
 
 -- what waits is handed on; a sink that has more waiting than its buffer has bytes is left as it is
 unfoldable pub flushed_of : Sink → List ℕ → Sink
-flushed_of s out = must_not (nat_lt (length out) s.at) s (handed_on s.target (take s.at out))
+flushed_of s out = must_not (nat_lt (length out) s.at) s (handed_on s.target s.digest (take s.at out))
 
 -- so many bytes fit behind those that wait
 unfoldable pub fits_of : Sink → ℕ → ℕ → Bool
@@ -54,7 +54,7 @@ spliced out at text = take at out ++ (text ++ drop (at + length text) out)
 unfoldable pub stored_of : Output → List ℕ → Output
 stored_of o text =
     must (fits_of o.0 (length o.1) (length text)) o
-    (record { at = o.0.at + length text; target = o.0.target }, spliced o.1 o.0.at text)
+    (record { at = o.0.at + length text; target = o.0.target; digest = o.0.digest }, spliced o.1 o.0.at text)
 
 -- and what waits is handed on first if it does not
 unfoldable pub put_of : Output → List ℕ → Output

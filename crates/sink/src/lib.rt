@@ -23,7 +23,7 @@ pub struct Digest {
 #[derive(Clone, Copy)]
 pub enum Target {
     StandardOutput,
-    Digested(Digest),
+    Digested,
 }
 
 // The buffer stays outside, lent to each call, and its length `at` is here: no heap, so the memory is the caller's.
@@ -32,6 +32,8 @@ pub struct Sink {
     // How many bytes of the buffer wait.
     pub at: usize,
     pub target: Target,
+    // The digest so far. (Beside the target, and not in its case: a caller's sink may hold one whatever its target, and `put` keeps it.)
+    pub digest: Digest,
 }
 
 impl Digest {
@@ -69,17 +71,18 @@ impl Sink {
         Self {
             at: 0,
             target: Target::StandardOutput,
+            digest: Digest { lines: 0, sum: 1 },
         }
     }
 
     // Output to a digest.
-    #[tactic(auto, unfolding(crate::specs::Sinks::digested))]
+    #[tactic(auto, unfolding(crate::specs::Sinks::written, crate::specs::Sinks::digested))]
     pub fn digested() -> Self
         ensures { result ≡ digested_of }
     {
         Self {
-            at: 0,
-            target: Target::Digested(Digest { lines: 0, sum: 1 }),
+            target: Target::Digested,
+            ..Self::written()
         }
     }
 
@@ -97,9 +100,10 @@ impl Sink {
                 io::write_all(STDOUT, waiting);
                 Self::written()
             }
-            Target::Digested(digest) => Self {
+            Target::Digested => Self {
                 at: 0,
-                target: Target::Digested(digest.with(waiting)),
+                digest: self.digest.with(waiting),
+                ..self
             },
         }
     }

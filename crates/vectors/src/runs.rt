@@ -3,7 +3,6 @@
 use crate::stored;
 use printing::Sink;
 use session::Session;
-use sink::Target;
 
 // Choices made from a seed, of so many workers: so many, each of a line below a modulus.
 #[derive(Clone, Copy)]
@@ -96,15 +95,8 @@ fn made_run(fd: i32, file: &[u8], sink: Sink, out: &mut [u8]) -> Sink {
         seed: u32::from_le_bytes(stored::array(fd)),
         modulus: u16::from_le_bytes(stored::array(fd)),
     };
-    match digest(file, made).target {
-        Target::Digested(digest) => printing::put_line(
-            sink,
-            out,
-            b"#",
-            &[digest.lines, digest.sum],
-        ),
-        Target::StandardOutput => sink,
-    }
+    let done = digest(file, made).digest;
+    printing::put_line(sink, out, b"#", &[done.lines, done.sum])
 }
 
 // The run that is stored after its plan: a byte says of which kind it is.
