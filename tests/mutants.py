@@ -44,9 +44,7 @@ LONGEST_ABOVE = 1800
 
 # Survivors that are no gap: label -> (the line after the change, why). The line stands there so that
 # a label which comes to mean another change, as the code changes, is asked about again.
-KNOWN = {
-    "printing/text.rt:put_number:constant-1": ("let mut digits = [1u8; 20];", "the same: only the digits that `io::decimal` has written are put"),
-}
+KNOWN = {}
 
 
 # ---- reading the sources
@@ -82,13 +80,15 @@ def blanked(line):
     return literal.sub(lambda m: " " * len(m.group()), line)
 
 
-def split_top(text):
-    """The parts between commas that stand in no bracket."""
+def split_top(text, types=False):
+    """The parts between commas that stand in no bracket; among types `<` and `>` are brackets, too."""
     parts, depth, start = [], 0, 0
+    if types:
+        text = text.replace("->", "  ")
     for i, c in enumerate(text):
-        if c in "([{":
+        if c in "([{" or types and c == "<":
             depth += 1
-        elif c in ")]}":
+        elif c in ")]}" or types and c == ">":
             depth -= 1
         elif c == "," and depth == 0:
             parts.append(text[start:i].strip())
@@ -111,7 +111,7 @@ def closing(text, opening):
     return None
 
 
-FUNCTION = re.compile(r"^(\s*)(?:pub(?:\(\w+\))? )?(?:extern \"C\" )?fn (\w+)\s*(?:<[^>]*>)?\(")
+FUNCTION = re.compile(r"^(\s*)(?:pub(?:\(\w+\))? )?(?:extern \"C\" )?fn (\w+)\s*(?:<.*?>)?\(")
 CONSTANT = re.compile(r"^\s*(?:pub(?:\(\w+\))? )?const (\w+): ([^=]+) = (\d+);")
 
 
@@ -128,7 +128,7 @@ def owners_of(source):
             i += 1
             continue
         indent, name = head.groups()
-        # The body begins where a line opens a brace that is none of a contract's.
+        # The body begins where a line opens a brace that is none of a contract's. A trait's method may have none.
         begin, contract, ensures = i, False, False
         while begin < len(code) - 1:
             word = code[begin].strip()
@@ -136,15 +136,20 @@ def owners_of(source):
             ensures = ensures or word.startswith("ensures")
             if code[begin].rstrip() == indent + "{" or (word.endswith("{") and not contract):
                 break
+            if word.endswith(";"):
+                break
             begin += 1
+        if code[begin].rstrip().endswith(";"):
+            i = begin + 1
+            continue
         end = begin
         while end < len(code) - 1 and code[end].rstrip() != indent + "}":
             end += 1
         text = " ".join(code[i : begin + 1])
-        opening = text.index("(", text.index("fn " + name))
+        opening = head.end() - 1
         close = closing(text, opening)
         parameters = []
-        for part in split_top(text[opening + 1 : close]):
+        for part in split_top(text[opening + 1 : close], types=True):
             if ":" in part:
                 left, right = part.split(":", 1)
                 parameters.append((left.replace("mut ", "").strip(), right.strip()))
@@ -180,7 +185,7 @@ class Program:
     def read_types(self, text):
         for found in re.finditer(r"\b(struct|enum) (\w+) (\{)", text):
             inside = text[found.end() : closing(text, found.start(3))]
-            parts = [re.sub(r"^pub(?:\(\w+\))? ", "", part) for part in split_top(inside)]
+            parts = [re.sub(r"^pub(?:\(\w+\))? ", "", part) for part in split_top(inside, types=True)]
             if found.group(1) == "struct":
                 pairs = [part.split(":", 1) for part in parts]
                 self.structs[found.group(2)] = {field.strip(): of.strip() for field, of in pairs}

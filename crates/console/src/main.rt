@@ -56,6 +56,20 @@ fn file_buffer<const N: usize>() -> [u8; N]
     [0; N]
 }
 
+// A buffer for a file of cells.
+fn cells_buffer() -> [u8; CELL_BYTES]
+    ensures { 16388 ≡ length result }
+{
+    file_buffer()
+}
+
+// A buffer for a journal.
+fn journal_buffer() -> [u8; JOURNAL_BYTES]
+    ensures { 1441814 ≡ length result }
+{
+    file_buffer()
+}
+
 // `open W PIPE BASE PATH`: the cells are kept for later choices.
 fn take_cells(
     rt: &HostRuntime,
@@ -72,7 +86,7 @@ fn take_cells(
     ensures { Rounded asked was file.now (lent_of mem.old cells.old figures.old) out.old
         result (lent_of mem.new cells.new figures.new) out.new }
 {
-    let mut bytes = file_buffer::<CELL_BYTES>();
+    let mut bytes = cells_buffer();
     let found = files::read(rt, path, &mut bytes);
     let many = cells::read_cells(&bytes[..found], cells);
     let talk = answering::answer_open_rounded(
@@ -108,7 +122,7 @@ fn take_journal(
     requires { was.size ≤ length file.now }
     ensures { Marked workers was file.now out.old result out.new }
 {
-    let mut journal = file_buffer::<JOURNAL_BYTES>();
+    let mut journal = journal_buffer();
     let mut mem = fresh_numbers();
     let count = files::read(rt, path, &mut journal);
     let talk = answering::answer_mark(

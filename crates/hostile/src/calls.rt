@@ -31,8 +31,8 @@ pub fn lent(all: usize, short: bool) -> usize
 }
 
 impl Choice {
-    // A call on its run.
-    fn called<F: FnOnce(State, &mut [u16]) -> Chosen>(self, call: F) -> After
+    // A call on its run. (A choice is 64 KiB: so it is lent, here and below.)
+    fn called<F: FnOnce(State, &mut [u16]) -> Chosen>(&self, call: F) -> After
         requires { F.IsAlwaysCallable call }
     {
         let mut mem = self.run.mem;
@@ -47,17 +47,17 @@ impl Choice {
         }
     }
 
-    pub fn made(self) -> After {
+    pub fn made(&self) -> After {
         self.called(|state, mem| engine::choose(state, mem, self.worker, self.line))
     }
 
     // The taking of an event, whatever was offered.
-    pub fn taken(self, event: Event) -> After {
+    pub fn taken(&self, event: Event) -> After {
         self.called(|state, mem| engine::take_offered(state, mem, event))
     }
 
     // An offer is lent its memory to read, so that only its answer is there to be tried.
-    pub fn offered(self) -> Result<Event, Refusal> {
+    pub fn offered(&self) -> Result<Event, Refusal> {
         let count = lent(self.run.mem.len(), self.short);
         engine::offer(
             self.run.state,
@@ -68,7 +68,7 @@ impl Choice {
     }
 
     // What is said of a call on its run.
-    pub fn trial(self, after: After) -> Trial {
+    pub fn trial(&self, after: &After) -> Trial {
         Trial {
             number: report::number_of(after.answer),
             state: compare::same_state(after.run.state, self.run.state),

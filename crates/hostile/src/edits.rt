@@ -6,8 +6,7 @@
 //     M           lent number AT
 //     Z           all of the state is that of a refused opening
 //     !           no damage: line AT is chosen, by worker VALUE
-// (A letter of the file is matched once, in `edited`: an enum between would list each of them twice more.)
-use crate::calls::Choice;
+// (A letter of the file is matched once, in `edit`: an enum between would list each of them twice more.)
 use crate::report::Run;
 use crate::stored;
 use state::State;
@@ -45,50 +44,42 @@ fn put<T: Copy>(all: &mut [T], at: usize, value: T) {
     }
 }
 
-// The run after a choice, by a worker of whom nothing need be right.
-fn chosen(run: Run, worker: u16, line: u16) -> Run {
-    let choice = Choice {
-        run,
-        worker: Worker(worker),
-        line: Line(line),
-        short: false,
-    };
-    choice.made().run
+// A choice on the run, by a worker of whom nothing need be right.
+fn choose(run: &mut Run, worker: u16, line: u16) {
+    let chosen = engine::choose(run.state, &mut run.mem, Worker(worker), Line(line));
+    run.state = chosen.state;
 }
 
-// The run with an edit; one by another letter, or past an array's end, says nothing.
-fn edited(run: Run, letter: u8, at: u16, n: u16) -> Run {
-    let Run { mut state, mut mem } = run;
+// Makes an edit; one by another letter, or past an array's end, says nothing. (In place, as a run is 64 KiB.)
+fn edit(run: &mut Run, letter: u8, at: u16, n: u16) {
     let i = usize::from(at);
     match letter {
-        b'P' => state.pipes = n,
-        b'L' => state.lines = n,
-        b'W' => state.workers = n,
-        b'K' => state.placed = n,
-        b'X' => state.stopped = n == 1,
-        b'S' => put(&mut state.serial, i, n == 1),
-        b'C' => put(&mut state.counters, i, (n % 256) as u8),
-        b'p' => put(&mut state.at, i, Pipe(n)),
-        b'r' => put(&mut state.running, i, n == 1),
-        b't' => put(&mut state.token, i, Token(n)),
-        b'k' => put(&mut state.place, i, Place(n)),
-        b'w' => put(&mut state.worker, i, Worker(n)),
-        b'N' => state.tables.tokens = n,
-        b'T' => state.tables.count = n,
-        b'F' => state.tables.first = n,
-        b'E' => state.tables.end = n,
-        b'D' => state.tables.held = n,
-        b'M' => put(&mut mem, i, n),
-        b'Z' => state = zeros(),
-        b'!' => return chosen(run, n, at),
+        b'P' => run.state.pipes = n,
+        b'L' => run.state.lines = n,
+        b'W' => run.state.workers = n,
+        b'K' => run.state.placed = n,
+        b'X' => run.state.stopped = n == 1,
+        b'S' => put(&mut run.state.serial, i, n == 1),
+        b'C' => put(&mut run.state.counters, i, (n % 256) as u8),
+        b'p' => put(&mut run.state.at, i, Pipe(n)),
+        b'r' => put(&mut run.state.running, i, n == 1),
+        b't' => put(&mut run.state.token, i, Token(n)),
+        b'k' => put(&mut run.state.place, i, Place(n)),
+        b'w' => put(&mut run.state.worker, i, Worker(n)),
+        b'N' => run.state.tables.tokens = n,
+        b'T' => run.state.tables.count = n,
+        b'F' => run.state.tables.first = n,
+        b'E' => run.state.tables.end = n,
+        b'D' => run.state.tables.held = n,
+        b'M' => put(&mut run.mem, i, n),
+        b'Z' => run.state = zeros(),
+        b'!' => choose(run, n, at),
         _ => {}
     }
-    Run { state, mem }
 }
 
-// The run with the edits of a try, which end with a colon.
-pub fn spoiled(fd: i32, run: Run) -> Run {
-    let mut now = run;
+// Makes the edits of a try, which end with a colon.
+pub fn spoil(fd: i32, run: &mut Run) {
     for _ in 0..16 {
         let letter = stored::byte(fd);
         if letter == b':' {
@@ -96,7 +87,6 @@ pub fn spoiled(fd: i32, run: Run) -> Run {
         }
         let at = stored::number(fd);
         let n = stored::number(fd);
-        now = edited(now, letter, at, n);
+        edit(run, letter, at, n);
     }
-    now
 }

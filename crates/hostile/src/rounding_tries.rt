@@ -67,7 +67,7 @@ fn same_run(a: rounding::Run, b: rounding::Run) -> bool {
 // What is said of a choice or a taking: its number, then the run, the memory and the figures. The figures are lent as sevens.
 fn say<F: FnOnce(rounding::Run, &mut [u16], &[u32], &mut [u32]) -> Chosen>(
     words: &[u8],
-    handed: Handed,
+    handed: &Handed,
     call: F,
 )
     requires { F.IsAlwaysCallable call }
@@ -92,19 +92,19 @@ fn say<F: FnOnce(rounding::Run, &mut [u16], &[u32], &mut [u32]) -> Chosen>(
     report::say_same(figures == [7u32; 4]);
 }
 
-fn say_choice(handed: Handed, worker: Worker, line: Line) {
+fn say_choice(handed: &Handed, worker: Worker, line: Line) {
     say(b": ", handed, |run, mem, cells, figures| {
         rounded::choose_rounded(run, mem, cells, figures, worker, line)
     });
 }
 
-fn say_taking(words: &[u8], handed: Handed, event: Event) {
+fn say_taking(words: &[u8], handed: &Handed, event: Event) {
     say(words, handed, |run, mem, cells, figures| {
         rounded::take_rounded(run, mem, cells, figures, event)
     });
 }
 
-fn say_offer(handed: Handed, worker: Worker, line: Line) {
+fn say_offer(handed: &Handed, worker: Worker, line: Line) {
     let lent = handed.lent;
     let figures = [7u32; 4];
     let many = some(lent.many);
@@ -121,6 +121,7 @@ fn say_offer(handed: Handed, worker: Worker, line: Line) {
 }
 
 // The choice, its offer, and the takings of two events that are handed in whatever was offered.
+#[inline(never)]
 pub fn tried(run: Run, lent: Lent, worker: Worker, line: Line) {
     let Run { state, mem } = run;
     let rounding = lent.rounding;
@@ -129,12 +130,12 @@ pub fn tried(run: Run, lent: Lent, worker: Worker, line: Line) {
         mem,
         lent,
     };
-    say_choice(handed, worker, line);
-    say_offer(handed, worker, line);
-    say_taking(b"; stop ", handed, takings::stop_of(worker, line));
+    say_choice(&handed, worker, line);
+    say_offer(&handed, worker, line);
+    say_taking(b"; stop ", &handed, takings::stop_of(worker, line));
     say_taking(
         b"; finish ",
-        handed,
+        &handed,
         takings::finish_of(state, worker, line),
     );
 }

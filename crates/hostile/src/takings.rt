@@ -5,7 +5,7 @@ use state::State;
 use vocabulary::{Event, Line, Pipe, Place, Step, Stop, Token, Worker};
 
 // Whether the taking of an event answers and leaves what the choice does, which is an event.
-fn is_taken_alike(choice: Choice, event: Event) -> bool {
+fn is_taken_alike(choice: &Choice, event: Event) -> bool {
     let made = choice.made();
     let taken = choice.taken(event);
     made.answer.is_ok()
@@ -15,7 +15,8 @@ fn is_taken_alike(choice: Choice, event: Event) -> bool {
 }
 
 // The offer, and whether it is an event whose taking is the choice.
-fn say_offered(choice: Choice) {
+#[inline(never)]
+fn say_offered(choice: &Choice) {
     let offered = choice.offered();
     let alike = offered.is_ok_and(|event| is_taken_alike(choice, event));
     report::say_offer(report::number_of(offered), alike);
@@ -37,11 +38,16 @@ pub(crate) fn finish_of(s: State, worker: Worker, line: Line) -> Event {
     })
 }
 
+#[inline(never)]
+fn say_taking(words: &[u8], choice: &Choice, event: Event) {
+    report::say(words, choice.trial(&choice.taken(event)));
+}
+
 // What is said of the offer and the takings: `; offer n[ and its taking]; stop n same|changed same|changed; finish n ..`.
-pub fn say(choice: Choice) {
+pub fn say(choice: &Choice) {
     let stop = stop_of(choice.worker, choice.line);
     let finish = finish_of(choice.run.state, choice.worker, choice.line);
     say_offered(choice);
-    report::say(b"; stop ", choice.trial(choice.taken(stop)));
-    report::say(b"; finish ", choice.trial(choice.taken(finish)));
+    say_taking(b"; stop ", choice, stop);
+    say_taking(b"; finish ", choice, finish);
 }

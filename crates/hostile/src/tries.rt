@@ -52,13 +52,16 @@ fn opening(file: &[u8], workers: u16, short: bool) -> Trial {
 
 // The run of a try: at opening, with the try's edits. The try's name is told.
 fn named_run(fd: i32, file: &[u8]) -> Run {
-    let run = edits::spoiled(fd, opened(file));
+    let mut run = opened(file);
+    edits::spoil(fd, &mut run);
     stored::print_line(fd);
     run
 }
 
-fn say_choice(choice: Choice) {
-    report::say(b": ", choice.trial(choice.made()));
+// (Not part of its caller, as others below: so the runs of one try are not on the stack beside those of another.)
+#[inline(never)]
+fn say_choice(choice: &Choice) {
+    report::say(b": ", choice.trial(&choice.made()));
     takings::say(choice);
 }
 
@@ -77,7 +80,7 @@ pub fn next(fd: i32, file: &[u8]) -> bool {
     let worker = Worker(workers);
     let line = Line(stored::number(fd));
     match verb {
-        Verb::Choose { short } => say_choice(Choice {
+        Verb::Choose { short } => say_choice(&Choice {
             run: named_run(fd, file),
             worker,
             line,

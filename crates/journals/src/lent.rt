@@ -3,13 +3,11 @@ use crate::{choices, report, run};
 use marking::Marking;
 use vocabulary::EventRecord;
 
-// What marking is lent: two numbers more than it needs, all sevens.
-fn memory() -> [u16; 32770] {
-    [7u16; 32770]
-}
+// What marking is lent: two numbers more than it needs, all sevens. (A constant: a call that returns them would copy them once more.)
+const SEVENS: [u16; 32770] = [7; 32770];
 
 // Whether two memories agree from this index on.
-fn same(a: [u16; 32770], b: [u16; 32770], from: usize) -> bool {
+fn same(a: &[u16], b: &[u16], from: usize) -> bool {
     a.get(from..) == b.get(from..)
 }
 
@@ -27,7 +25,7 @@ fn mark_lent(
 
 // What is said of a journal over a file.
 pub fn over(name: &[u8], file: &[u8], workers: u16, records: [EventRecord; 13]) {
-    let mut mem = memory();
+    let mut mem = SEVENS;
     report::say(name, mark_lent(file, workers, records, &mut mem, 32768));
     report::end();
 }
@@ -41,18 +39,18 @@ pub fn of(name: &[u8], tokens: u8, workers: u16, records: [EventRecord; 13]) {
 // What is said of the run with so many numbers lent, and of the numbers from an index on.
 pub fn in_memory(name: &[u8], count: usize, from: usize) {
     let plan = run::plan(3);
-    let mut mem = memory();
+    let mut mem = SEVENS;
     report::say(name, mark_lent(&plan, 2, run::run(), &mut mem, count));
-    report::say_memory(b"as before", same(mem, memory(), from));
+    report::say_memory(b"as before", same(&mem, &SEVENS, from));
     report::end();
 }
 
 // What is said of a journal over the run's plan, and of the memory beside that which the run's first so many choices leave.
 pub fn beside_choices(name: &[u8], records: [EventRecord; 13], count: usize) {
     let plan = run::plan(3);
-    let mut mem = memory();
+    let mut mem = SEVENS;
     report::say(name, crate::mark_records(&plan, 2, records, &mut mem));
-    let mut other = memory();
+    let mut other = SEVENS;
     choices::make(&plan, run::run(), &mut other, count);
     report::say_memory(b"as the choices leave it", mem == other);
     report::end();

@@ -2,8 +2,10 @@
 pub mod Facts
 -- what a range tells of a number in it;
 pub mod Ranges
--- the checks one step at a time, as the code makes them;
+-- the checks one step at a time, as the code makes them,
 pub mod Steps
+-- and a running total that is too large;
+pub mod Totals
 -- what passes is the file of a valid plan;
 pub mod SoundParts
 pub mod Sound
