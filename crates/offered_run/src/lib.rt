@@ -5,7 +5,6 @@ ghost use Rattle.std.specs.Prelude.{◌≡◌};
 ghost use Rattle.whole_run.specs.Runs.{run_of};
 
 use engine::Chosen;
-use state::State;
 use vocabulary::{Line, Worker};
 use whole_run::Way;
 
@@ -14,12 +13,10 @@ struct OfferedFirst;
 
 impl Way for OfferedFirst {
     #[tactic(auto, using(crate::proofs::Offering::made_if_as_offered))]
-    fn choose(state: State, mem: &mut [u16], worker: Worker, line: Line) -> Chosen {
-        let answer = engine::offer(state, mem, worker, line);
-        Chosen {
-            answer,
-            ..engine::choose_if(state, mem, worker, line, Ok(()))
-        }
+    fn choose(chosen: &mut Chosen, mem: &mut [u16], worker: Worker, line: Line) {
+        let answer = engine::offer(chosen.state, mem, worker, line);
+        *chosen = engine::choose_if(chosen.state, mem, worker, line, Ok(()));
+        chosen.answer = answer;
     }
 }
 

@@ -5,7 +5,6 @@ ghost use Rattle.std.specs.Prelude.{◌≡◌};
 ghost use Rattle.whole_run.specs.Runs.{run_of};
 
 use engine::Chosen;
-use state::State;
 use vocabulary::{Line, Refusal, Worker};
 use whole_run::Way;
 
@@ -15,13 +14,13 @@ struct ByTaking;
 
 impl Way for ByTaking {
     #[tactic(auto, using(crate::proofs::Taking::refused_way))]
-    fn choose(state: State, mem: &mut [u16], worker: Worker, line: Line) -> Chosen {
-        match engine::offer(state, mem, worker, line) {
-            Ok(event) => engine::take_record(state, mem, event.record(), Refusal::OtherEvent),
-            Err(why) => Chosen {
-                answer: Err(why),
-                state,
-            },
+    fn choose(chosen: &mut Chosen, mem: &mut [u16], worker: Worker, line: Line) {
+        match engine::offer(chosen.state, mem, worker, line) {
+            Ok(event) => {
+                let record = event.record();
+                *chosen = engine::take_record(chosen.state, mem, record, Refusal::OtherEvent);
+            }
+            Err(why) => chosen.answer = Err(why),
         }
     }
 }

@@ -24,7 +24,7 @@ pub(crate) fn follow<W: Way>(state: State, choices: &[u8], mem: &mut [u16]) -> u
     for choice in choices.chunks_exact(2) {
         let worker = Worker(u16::from(choice[0]));
         let line = Line(u16::from(choice[1]));
-        chosen = W::choose(chosen.state, mem, worker, line);
+        W::choose(&mut chosen, mem, worker, line);
         sum = checksum::add(sum, chosen.answer);
     }
     sum

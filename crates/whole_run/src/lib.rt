@@ -13,21 +13,21 @@ ghost use Rattle.whole_run.specs.Runs.{run_of};
 
 pub use checksum::add;
 use engine::Chosen;
-use state::State;
 use vocabulary::{Line, Worker};
 
-// A way to make a choice: whatever it calls, the choice is made as the rules make it.
+// A way to make a choice: whatever it calls, the choice is made as the rules make it. (What the choice before returned is changed in place, so
+// that a way which finds the choice refused copies no state: docs/DECISIONS.md.)
 pub trait Way {
-    fn choose(state: State, mem: &mut [u16], worker: Worker, line: Line) -> Chosen
-        ensures { chosen_of result mem.new ≡ chosen_by memory_source (machine_of state mem.old) worker.0 line.0 };
+    fn choose(chosen: &mut Chosen, mem: &mut [u16], worker: Worker, line: Line)
+        ensures { chosen_of chosen.new mem.new ≡ chosen_by memory_source (machine_of chosen.old.state mem.old) worker.0 line.0 };
 }
 
 // By one call. (`choose` is this call of `choose_if`; a call between would copy the state once more.)
 struct ByChoice;
 
 impl Way for ByChoice {
-    fn choose(state: State, mem: &mut [u16], worker: Worker, line: Line) -> Chosen {
-        engine::choose_if(state, mem, worker, line, Ok(()))
+    fn choose(chosen: &mut Chosen, mem: &mut [u16], worker: Worker, line: Line) {
+        *chosen = engine::choose_if(chosen.state, mem, worker, line, Ok(()));
     }
 }
 

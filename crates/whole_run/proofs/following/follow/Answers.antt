@@ -11,7 +11,7 @@ loop-choice-preserved g c =
     let inv = c.loop-choice.invariant in
     let next = c.in-Some.ensures.steps in (
       next.0 ∙ inv.0,
-      again inv.1 _ _ next.1.0 (next.1.1 ∙ inv.0) c.from.ensures c.from-in-loop-choice.ensures _ _ c.choose-chosen.ensures c.add-sum.ensures,
+      again inv.1 _ _ next.1.0 (next.1.1 ∙ inv.0) c.from.ensures c.from-in-loop-choice.ensures _ _ c.choose.ensures c.add-sum.ensures,
     )
 
 pub returns-clause-answer : goal.returns-clause-answer
