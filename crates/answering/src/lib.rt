@@ -120,7 +120,8 @@ pub fn answer_open_rounded(
     }
 }
 
-// A line as it stands; the run stays.
+// A line as it stands; the run stays. (Inlined: as a call it would copy the run.)
+#[inline(always)]
 #[tactic(auto, using(crate::proofs::Laws::told_is))]
 fn tell(talk: Talk, text: &[u8], out: &mut [u8]) -> Talk
     ensures { (m cells figures : List ℕ) → held_of result m cells figures out.new ≡
@@ -158,17 +159,16 @@ fn tell_sum(talk: Talk, out: &mut [u8]) -> Talk
     }
 }
 
-// `ended`: `E` or `O`.
+// `ended`: `E` or `O`. (Two returns: as the value of an `if` the run would be copied once more.)
 #[tactic(auto, using(crate::proofs::Laws::ended_is, crate::proofs::Laws::not_ended_is))]
 fn tell_end(talk: Talk, out: &mut [u8]) -> Talk
     ensures { (m cells figures : List ℕ) → held_of result m cells figures out.new ≡
         ended_in (held_of talk m cells figures out.old) }
 {
     if state::ended(talk.run.state) {
-        tell(talk, b"E\n", out)
-    } else {
-        tell(talk, b"O\n", out)
+        return tell(talk, b"E\n", out);
     }
+    tell(talk, b"O\n", out)
 }
 
 // Any command but those that read a file and `quit`, which are left to the program: it reads the file, and ends.

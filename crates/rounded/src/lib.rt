@@ -26,7 +26,8 @@ pub struct Chosen {
     pub run: Run,
 }
 
-// A choice that was made or refused, with what its answer does to T and the figures.
+// A choice that was made or refused, with what its answer does to T and the figures. (Inlined: as a call it would copy the run.)
+#[inline(always)]
 #[tactic(auto, unfolding(crate::specs::Runs::chosen_of, engine::specs::Machines::chosen_of, rounding::specs::Runs::run_of))]
 fn settled(rounding: Rounding, chosen: engine::Chosen, cells: &[u32], figures: &mut [u32]) -> Chosen
     ensures { (m : List ℕ) → chosen_of result m figures.new ≡ joined (chosen_by chosen m) (rounding_of rounding)
